@@ -3,7 +3,6 @@ use Rattle.std.proofs.Common.{◌≡◌, ℕ, ◌+◌, ◌-◌, ◌<◌, ◌≤�
 use Rattle.std.specs.List.{sum_by, flat_map, list_any, AllByRecursion, count_by}
 use Rattle.std.specs.Option.{option_map, option_map_or, option_or, option_and_then}
 use Rattle.std.specs.Str.{bytes_eq}
-use Rattle.std.specs.BTreeMap.{get}
 use Rattle.ctl_relation.specs.Parts.{AtomParts, OfferParts}
 use Rattle.ctl_relation.specs.Met.{met, met_pairs}
 use Rattle.ctl_stanza.specs.Content.{Content, offers_of}
@@ -15,12 +14,12 @@ use Rattle.ctl_index.specs.declared.keys.NamingAtom.{NamingAtom}
 use Rattle.ctl_index.specs.declared.keys.OfferKey.{OfferKey}
 use Rattle.ctl_index.specs.declared.keys.ClauseKey.{ClauseKey}
 use Rattle.ctl_index.specs.declared.tables.Tables.{Tables}
-use Rattle.ctl_index.specs.Clauses.{clause_atoms, clause_cmp, clause_of, clause_at, number_at}
+use Rattle.ctl_index.specs.Clauses.{clause_atoms, clause_of, clause_at, number_at, number_among}
 use Rattle.ctl_index.specs.Names.{keyed_atoms}
 use Rattle.ctl_index.specs.Offers.{offers_among, contents}
 use Rattle.ctl_index.specs.Inside.TablesByName.{offers_under, namers_under}
 use Rattle.ctl_index.specs.Inside.TablesIndexed.{atom_named, offer_named, keyed_offers, IsIndexed, offers_sum, namers_sum}
-use Rattle.ctl_index.specs.Inside.TablesLeft.{IsTakenOut, hits_at, is_clause_at, namers_taken, tests_taken_out}
+use Rattle.ctl_index.specs.Inside.TablesLeft.{IsTakenOut, hits_at, is_stanza_at, namers_taken, tests_taken_out}
 use Rattle.ctl_index.specs.Inside.TablesLoaded.{IsLoaded, all_hits, tests_put_in}
 use Rattle.ctl_index.specs.Inside.TablesParts.{IsJoined}
 use Rattle.ctl_index.specs.Inside.TablesPending.{Pending, seen, hit, AreSeen}
@@ -105,7 +104,7 @@ module _ (s : Pending) (keys : List StanzaKey) (all rest : List Entry) (old new 
   loaded_namers : IsLoaded s keys old new → (q : List ℕ) (f : NamingAtom → ℕ) → sum_by f (namers_under new.names.map q) ≡ namers_sum q f all
   loaded_namers step q f = step.namers q f ∙ ap (λ n. n + namers_sum q f come) (was.namers q f) ∙ sym (joined.sums (λ (e : Entry). sum_by (atom_named q f) (keyed_atoms e)))
 
-  loaded_number : IsLoaded s keys old new → ((k : ClauseKey) → IfSome (number_at k all) (λ n. n < 2 ^ 96)) → (k : ClauseKey) → get clause_cmp new.counters.numbers k ≡ number_at k all
+  loaded_number : IsLoaded s keys old new → ((k : ClauseKey) → IfSome (number_at k all) (λ n. n < 2 ^ 96)) → (k : ClauseKey) → number_among new.counters.numbers k ≡ number_at k all
   loaded_number step fits k =
       step.counters k
       ∙ (λ i. option_or (came (under k.stanza come) i) (raised i))
@@ -116,7 +115,7 @@ module _ (s : Pending) (keys : List StanzaKey) (all rest : List Entry) (old new 
       came None = refl
       came (Some x) = clause_met-is s (offers_under new.names.map) all (loaded_offers step) sees_all k x
 
-      raised : option_map (counted_up (all_hits s (namers_under old.names.map) (offers_among (contents come)) k)) (get clause_cmp old.counters.numbers k)
+      raised : option_map (counted_up (all_hits s (namers_under old.names.map) (offers_among (contents come)) k)) (number_among old.counters.numbers k)
           ≡ option_map (counted_up (hits_of (offers_among (contents come)) (clause_at k rest))) (number_at k rest)
       raised = λ i. option_map (counted_up (hits-is s (namers_under old.names.map) rest was.namers sees apart (offers_among (contents come)) k i)) (was.counters k i)
 
@@ -167,11 +166,11 @@ module _ (s : Pending) (keys : List StanzaKey) (all rest : List Entry) (old new 
   abbrev number_of : List Entry → Option (List AtomParts) → Option ℕ
   number_of es c = option_map (λ atoms. met_pairs atoms (offers_among (contents es))) c
 
-  take_number : IsTakenOut s keys old new → (k : ClauseKey) → get clause_cmp new.counters.numbers k ≡ number_at k rest
+  take_number : IsTakenOut s keys old new → (k : ClauseKey) → number_among new.counters.numbers k ≡ number_at k rest
   take_number step k =
       step.counters k
       ∙ (λ i. option_map (λ n. n - hits i) (cond (goes i) None (was.counters k i)))
-      ∙ ap (λ c. option_map (λ n. n - hits_of (offers_among (contents going)) (clause_at k rest)) (cond (is_some (clause_at k going)) None (number_of all (option_and_then (clause_of k) c)))) (joined.parted.unders k.stanza)
+      ∙ ap (λ c. option_map (λ n. n - hits_of (offers_among (contents going)) (clause_at k rest)) (cond (is_some (under k.stanza going)) None (number_of all (option_and_then (clause_of k) c)))) (joined.parted.unders k.stanza)
       ∙ by (under k.stanza going) (under k.stanza rest) (λ x h. joined.parted.either k.stanza x h)
     where
       hits : sum_by (hits_at s (namers_taken s keys old) k) keys ≡ hits_of (offers_among (contents going)) (clause_at k rest)
@@ -181,29 +180,21 @@ module _ (s : Pending) (keys : List StanzaKey) (all rest : List Entry) (old new 
           ∙ sym (sum-flat_map (λ (o : OfferParts). sum_by (hit s o k) (namers_taken s keys old o.name)) offers_of (contents going))
           ∙ hits-is s (namers_taken s keys old) rest left_namers sees apart (offers_among (contents going)) k
 
-      there : (b : Bool) (c : Option Content) → b && is_some (option_and_then (clause_of k) c) ≡ is_some (option_and_then (clause_of k) (cond b c None))
+      there : (b : Bool) (c : Option Content) → b && is_some c ≡ is_some (cond b c None)
       there true c = refl
       there false c = refl
 
-      goes : list_any (is_clause_at s k) keys ≡ is_some (clause_at k going)
-      goes =
-          any_same (seen s) (λ c. is_some (option_and_then (clause_of k) c)) k.stanza keys
-          ∙ there (list_any (key_is k.stanza) keys) (seen s k.stanza) ∙ ap (λ c. is_some (option_and_then (clause_of k) c)) (sym (under_by (seen s) keys k.stanza))
+      goes : list_any (is_stanza_at s k.stanza) keys ≡ is_some (under k.stanza going)
+      goes = any_same (seen s) is_some k.stanza keys ∙ there (list_any (key_is k.stanza) keys) (seen s k.stanza) ∙ ap is_some (sym (under_by (seen s) keys k.stanza))
 
       les : (c : Option (List AtomParts)) → option_map (λ n. n - hits_of (offers_among (contents going)) c) (number_of all c) ≡ number_of rest c
       les None = refl
       les (Some atoms) = ap (λ n. Some n) (omega (arith, met_pairs-joined all rest going joined atoms))
 
-      all_gone : (c : Option (List AtomParts)) → cond (is_some c) None (number_of all c) ≡ None
-      all_gone None = refl
-      all_gone (Some atoms) = refl
-
       by : (c d : Option Content) → ((x : Content) → c ≡ Some x → d ≡ None)
-          → option_map (λ n. n - hits_of (offers_among (contents going)) (option_and_then (clause_of k) d)) (cond (is_some (option_and_then (clause_of k) c)) None (number_of all (option_and_then (clause_of k) (option_or c d)))) ≡ number_of rest (option_and_then (clause_of k) d)
+          → option_map (λ n. n - hits_of (offers_among (contents going)) (option_and_then (clause_of k) d)) (cond (is_some c) None (number_of all (option_and_then (clause_of k) (option_or c d)))) ≡ number_of rest (option_and_then (clause_of k) d)
       by None d none = les (option_and_then (clause_of k) d)
-      by (Some x) d none =
-          ap (option_map (λ n. n - hits_of (offers_among (contents going)) (option_and_then (clause_of k) d))) (all_gone (clause_of k x))
-          ∙ sym (ap (λ z. number_of rest (option_and_then (clause_of k) z)) (none x refl))
+      by (Some x) d none = sym (ap (λ z. number_of rest (option_and_then (clause_of k) z)) (none x refl))
 
   pub take_law : IsTakenOut s keys old new → IsIndexed rest new
   take_law step = record {

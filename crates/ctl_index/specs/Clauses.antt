@@ -3,7 +3,8 @@
 use Rattle.std.specs.Prelude.{ℕ, suc, Bool, false, List, [], ◌∷◌, flat_map, filter, slice_get, nat_eq, Option, None, if◌then◌else◌}
 use Rattle.std.specs.List.{list_any}
 use Rattle.std.specs.Option.{option_map, option_map_or, option_and_then}
-use Rattle.std.specs.Ordering.{nat_cmp, ordering_then}
+use Rattle.std.specs.Map.{lookup}
+use Rattle.std.specs.Ordering.{nat_cmp, ordering_then, is_eq}
 use Rattle.std.specs.declared.cmp.Ordering.{Ordering}
 use Rattle.ctl_relation.specs.declared.field_kind.FieldKind.{FieldKind}
 use Rattle.ctl_relation.specs.FieldKind.{field_place}
@@ -42,6 +43,10 @@ clause_at key es = option_and_then (clause_of key) (under key.stanza es)
 -- The number of a clause: the pairs of one of its atoms and an offer of the stanzas that meets it, repeats counted.
 abbrev pub number_at : ClauseKey → List Entry → Option ℕ
 number_at key es = option_map (λ atoms. met_pairs atoms (offers_among (contents es))) (clause_at key es)
+
+-- the number that stands beside a clause, where clauses stand with theirs
+abbrev pub number_among : List (ClauseKey × ℕ) → ClauseKey → Option ℕ
+number_among numbers key = lookup (λ q. is_eq (clause_cmp key q)) numbers
 
 -- whether there is a clause under the key that no offer meets
 abbrev pub is_unmet : List Entry → ClauseKey → Bool

@@ -1,4 +1,5 @@
 -- How things are held, and the steps of what is proved. Not for callers.
+pub mod ClauseNumbers
 pub mod KeptChoice
 pub mod KeptForm
 pub mod NameMap

@@ -1,4 +1,4 @@
-//! Stanzas come: their offers first, and then their atoms, so that a pair of their own is tested once.
+//! Stanzas come: their offers and their rows first, and then their atoms, so that a pair of their own is tested once.
 
 ghost use Rattle.std.specs.Prelude.{◌≡◌, ◌∷◌, [], ◌+◌, ◌≤◌, ◌<◌, ◌^◌, ℕ, List, OnOk, IfOk, Some, length, option_map, if◌then◌else◌};
 ghost use Rattle.std.specs.List.{All, sum_by};
@@ -8,10 +8,11 @@ ghost use Rattle.ctl_index.specs.Inside.TablesByName.{offers_under, namers_under
 ghost use Rattle.ctl_index.specs.Inside.TablesCounters.{counted_up};
 ghost use Rattle.ctl_index.specs.Inside.TablesWaiting.{told};
 ghost use Rattle.ctl_index.specs.Inside.TablesFit.{IsWholeAt};
-ghost use Rattle.ctl_index.specs.Inside.TablesHeld.{HasTested, TestsAtMost, namers_in, number_in, number_told, offers_in, own_in};
+ghost use Rattle.ctl_index.specs.Inside.TablesHeld.{HasTested, TestsAtMost, chosen_in, namers_in, number_in, number_told, offers_in, own_in, rows_in};
 ghost use Rattle.ctl_index.specs.Inside.TablesIndexed.{atom_named, keyed_offers_from, namers_sum, offer_named, offers_sum};
 ghost use Rattle.ctl_index.specs.Inside.TablesLoaded.{ComeApart, all_hits, group_named, number_with};
 ghost use Rattle.ctl_index.specs.Inside.TablesPending.{AreThere, entries_seen, seen};
+ghost use Rattle.ctl_index.specs.Inside.TablesRows.{AreRowsPut};
 ghost use Rattle.ctl_index.specs.Inside.TablesTests.{all_tested, atoms_tested, atoms_tested_at, fields_tested, group_met, group_tested, groups_tested, is_clause, offers_tested, offers_tested_at};
 ghost use Rattle.ctl_index.specs.Names.{keyed_atoms, keyed_group, keyed_groups, naming_fields};
 ghost use Rattle.ctl_index.specs.Offers.{contents, offers_among};
@@ -24,6 +25,7 @@ use crate::keys::{AtomKey, ClauseKey, KeyedOffer, OfferKey};
 use crate::name_table::NameTable;
 use crate::packed_key::PackedKey;
 use crate::pending_store::{PendingStore, stanza_at};
+use crate::rows::put_row_at;
 use crate::tables::Tables;
 use ctl_relation::{FieldKind, Group, Groups, Offer, Steps};
 use ctl_stanza::Stanza;
@@ -95,8 +97,9 @@ fn put_offers_at(
     }
 }
 
-/// What the stanzas under these keys offer. It is listed, and tested against the clauses that name it.
-pub(crate) fn put_offers(
+/// What the stanzas under these keys offer, and their rows. An offer is listed, and tested against the clauses that name it. The key
+/// of a stanza comes into its row right behind its offers: a later pass would fetch the stanza and its name once more.
+pub(crate) fn put_offers_and_rows(
     pending: &PendingStore<'_>,
     keys: &[StanzaKey],
     tables: &mut Tables,
@@ -105,7 +108,8 @@ pub(crate) fn put_offers(
     ensures offers { OnOk result ((q : List ℕ) (f : OfferKey → ℕ) → sum_by f (offers_in tables.new q)
         ≡ sum_by f (offers_in tables.old q) + offers_sum q f (entries_seen pending.now keys.now)) }
     ensures namers { OnOk result (namers_in tables.new ≡ namers_in tables.old) }
-    ensures rows { OnOk result (own_in tables.new ≡ own_in tables.old) }
+    ensures rows { OnOk result (AreRowsPut (entries_seen pending.now keys.now) (rows_in tables.old) (rows_in tables.new)) }
+    ensures chosen { OnOk result (chosen_in tables.new ≡ chosen_in tables.old) }
     ensures counts { OnOk result ((k : ClauseKey) → number_in tables.new k
         ≡ option_map (counted_up
         (all_hits pending.now (namers_in tables.old) (offers_among (contents (entries_seen pending.now keys.now))) k))
@@ -117,6 +121,7 @@ pub(crate) fn put_offers(
     let _count = tables.steps.count();
     for key in keys {
         put_offers_at(pending, *key, tables)?;
+        put_row_at(pending, *key, &mut tables.names)?;
     }
     Ok(())
 }

@@ -1,34 +1,54 @@
 //! The number of each clause, and the clauses at 0.
 
-ghost use Rattle.std.specs.Prelude.{◌≡◌, ◌-◌, ℕ, ◌<◌, ◌^◌, nat_eq, None, Some, true, false, OnOk, OnErr, option_map, if◌then◌else◌};
-ghost use Rattle.std.specs.BTreeMap.{get, IsEmpty};
+ghost use Rattle.std.specs.Prelude.{◌≡◌, ◌-◌, ◌<◌, ◌^◌, nat_eq, nat_lt, [], None, Some, true, false, OnOk, option_map, if◌then◌else◌};
 ghost use Rattle.std.specs.BTreeSet.{contains};
 ghost use Rattle.std.specs.Option.{option_map_or};
 ghost use Rattle.std.specs.Ordering.{is_eq};
-ghost use Rattle.ctl_index.specs.Clauses.{clause_cmp};
-ghost use Rattle.ctl_index.specs.Inside.TablesCounters.{AreUnmet, IsBehind, counted_up, entered, marked};
-ghost use Rattle.ctl_index.specs.Inside.TablesWaiting.{told};
+ghost use Rattle.ctl_store.specs.Keys.{key_is};
+ghost use Rattle.ctl_index.specs.Clauses.{clause_cmp, number_among};
+ghost use Rattle.ctl_index.specs.Inside.ClauseNumbers.{number_at_place, place_of, zeros_marked};
+ghost use Rattle.ctl_index.specs.Inside.TablesCounters.{AreUnmet, counted_up};
+ghost use Rattle.ctl_index.specs.Inside.TablesWaiting.{come_of, told};
+ghost use Rattle.ctl_index.specs.declared.keys.ClauseKey.{ClauseKey};
 
 use crate::clause_number::ClauseNumber;
+use crate::clause_numbers::ClauseNumbers;
 use crate::keys::ClauseKey;
 use crate::packed_clause::PackedClause;
+use crate::stanza_numbers::{ClausePlace, StanzaNumbers};
 use crate::unmet_set::UnmetSet;
-use crate::waiting::{Waiting, counted};
+use crate::waiting::Waiting;
+use ctl_store::StanzaKey;
 use std::alloc::{AllocError, Global};
-use std::collections::BTreeMap;
-use std::mem;
-
-// The last number that is kept, which none comes to.
-const MOST: u128 = 79_228_162_514_264_337_593_543_950_335;
 
 /// The number of each clause, with those at 0 beside, and the clauses that wait to be entered.
 #[derive(Drop)]
 pub(crate) struct Counters {
     alloc: Global,
-    numbers: BTreeMap<PackedClause, ClauseNumber>,
+    numbers: ClauseNumbers,
     unmet: UnmetSet,
     waiting: Waiting,
     ghost at_zero: { AreUnmet numbers unmet },
+}
+
+// Whether there is a number, and it is this one.
+fn is_number(number: Option<u128>, other: u128) -> bool
+    ensures { result ≡ option_map_or (λ n. nat_eq n other) number false }
+{
+    match number {
+        Some(number) => number == other,
+        None => false,
+    }
+}
+
+// Whether there is a number, and it is less than this one.
+fn is_below(number: Option<u128>, limit: u128) -> bool
+    ensures { result ≡ option_map_or (λ n. nat_lt n limit) number false }
+{
+    match number {
+        Some(number) => number < limit,
+        None => false,
+    }
 }
 
 // Notes whether a clause is among those at 0, where that has changed.
@@ -40,9 +60,8 @@ fn note(
     is_unmet: bool,
 ) -> Result<(), AllocError>
     requires { contains clause_cmp unmet.old key ≡ was_unmet }
-    ensures ok { OnOk result ((k : ClauseKey) → contains clause_cmp unmet.new k
+    ensures { OnOk result ((k : ClauseKey) → contains clause_cmp unmet.new k
         ≡ (if is_eq (clause_cmp key k) then is_unmet else contains clause_cmp unmet.old k)) }
-    ensures err { OnErr result ((k : ClauseKey) → contains clause_cmp unmet.new k ≡ contains clause_cmp unmet.old k) }
 {
     if was_unmet == is_unmet {
         return Ok(());
@@ -62,126 +81,101 @@ fn unmark(unmet: &mut UnmetSet, key: PackedClause, was_unmet: bool)
     }
 }
 
-// Notes of each of these clauses in turn whether it is among those at 0.
-fn mark_all(
+// Of these clauses of a stanza those at 0 come to the clauses at 0.
+fn mark_zeros(
     unmet: &mut UnmetSet,
-    clauses: &[(PackedClause, ClauseNumber)],
+    stanza: StanzaKey,
+    clauses: &[(ClausePlace, ClauseNumber)],
 ) -> Result<(), AllocError>
-    ensures { OnOk result ((k : ClauseKey) → contains clause_cmp unmet.new k ≡ marked clauses.now k (contains clause_cmp unmet.old k)) }
+    ensures { OnOk result ((k : ClauseKey) → contains clause_cmp unmet.new k
+        ≡ zeros_marked true stanza clauses.now k (contains clause_cmp unmet.old k)) }
 {
     for clause in clauses {
-        unmet.mark(clause.0, clause.1.get() == 0)?;
+        if clause.1.get() == 0 {
+            unmet.insert(PackedClause::new(clause.0.clause(stanza)))?;
+        }
     }
     Ok(())
 }
 
-// These clauses come together. A tree that is made of many keys at once has full nodes.
-fn append_all(
-    alloc: Global,
-    clauses: Vec<(PackedClause, ClauseNumber)>,
-    numbers: &mut BTreeMap<PackedClause, ClauseNumber>,
-    unmet: &mut UnmetSet,
-) -> Result<(), AllocError>
-    ensures numbers { OnOk result ((k : ClauseKey) → get clause_cmp numbers.new k
-        ≡ entered clauses.items k (get clause_cmp numbers.old k)) }
-    ensures unmet { OnOk result (AreUnmet numbers.old unmet.old → AreUnmet numbers.new unmet.new) }
+// Of these clauses of a stanza those at 0 leave the clauses at 0.
+fn unmark_zeros(unmet: &mut UnmetSet, stanza: StanzaKey, clauses: &[(ClausePlace, ClauseNumber)])
+    ensures { (k : ClauseKey) → contains clause_cmp unmet.new k
+        ≡ zeros_marked false stanza clauses.now k (contains clause_cmp unmet.old k) }
 {
-    mark_all(unmet, &clauses)?;
-    let mut coming = BTreeMap::from_iter(alloc, clauses)?;
-    numbers.append(&mut coming)?;
-    Ok(())
-}
-
-// The same, where no clause is left if memory ends in the middle.
-#[tactic(auto, using(crate::proofs::CounterLemmas::unmet_none))]
-fn enter_together(
-    alloc: Global,
-    clauses: Vec<(PackedClause, ClauseNumber)>,
-    numbers: &mut BTreeMap<PackedClause, ClauseNumber>,
-    unmet: &mut UnmetSet,
-) -> Result<(), AllocError>
-    requires { AreUnmet numbers.old unmet.old }
-    ensures numbers { OnOk result ((k : ClauseKey) → get clause_cmp numbers.new k
-        ≡ entered clauses.items k (get clause_cmp numbers.old k)) }
-    ensures unmet { AreUnmet numbers.new unmet.new }
-{
-    match append_all(alloc, clauses, numbers, unmet) {
-        Ok(()) => Ok(()),
-        Err(error) => {
-            numbers.clear();
-            unmet.clear();
-            Err(error)
+    for clause in clauses {
+        if clause.1.get() == 0 {
+            unmet.remove(PackedClause::new(clause.0.clause(stanza)));
         }
     }
 }
 
-// A number that counts one more.
-fn one_more(number: u128) -> u128
-    requires { number < 2 ^ 96 }
-    ensures more { result ≡ counted_up 1 number }
-    ensures few { result < 2 ^ 96 }
+// The clauses of a stanza go, and are told.
+fn take_stanza(
+    stanza: StanzaKey,
+    numbers: &mut ClauseNumbers,
+    unmet: &mut UnmetSet,
+) -> StanzaNumbers
+    requires { AreUnmet numbers.old unmet.old }
+    ensures told { (k : ClauseKey) → key_is k.stanza stanza ≡ true → number_among numbers.old k ≡ number_at_place (place_of k) result }
+    ensures gone { (k : ClauseKey) → number_among numbers.new k
+        ≡ (if key_is k.stanza stanza then None else number_among numbers.old k) }
+    ensures unmet { AreUnmet numbers.new unmet.new }
 {
-    if number < MOST { number + 1 } else { number }
+    let taken = numbers.take(stanza);
+    unmark_zeros(unmet, stanza, taken.as_slice());
+    taken
 }
 
-// Whether there is a number, and it is 0.
-fn is_at_zero(number: Option<ClauseNumber>) -> bool
-    ensures { result ≡ option_map_or (λ n. nat_eq n 0) number false }
-{
-    match number {
-        Some(number) => number.get() == 0,
-        None => false,
-    }
-}
-
-// A clause comes with its number.
-fn enter(
-    key: PackedClause,
-    number: u128,
-    numbers: &mut BTreeMap<PackedClause, ClauseNumber>,
+// The clauses of a stanza come, of which none is there.
+fn put_stanza(
+    stanza: StanzaKey,
+    clauses: StanzaNumbers,
+    numbers: &mut ClauseNumbers,
     unmet: &mut UnmetSet,
 ) -> Result<(), AllocError>
-    requires few { number < 2 ^ 96 }
+    requires none { (k : ClauseKey) → key_is k.stanza stanza ≡ true → number_among numbers.old k ≡ None }
     requires unmet { AreUnmet numbers.old unmet.old }
-    ensures numbers { OnOk result ((k : ClauseKey) → get clause_cmp numbers.new k
-        ≡ (if is_eq (clause_cmp key k) then Some number else get clause_cmp numbers.old k)) }
+    ensures numbers { OnOk result ((k : ClauseKey) → number_among numbers.new k
+        ≡ (if key_is k.stanza stanza then number_at_place (place_of k) clauses else number_among numbers.old k)) }
     ensures unmet { OnOk result (AreUnmet numbers.new unmet.new) }
 {
-    let there = numbers.insert(key, ClauseNumber::new(number))?;
-    note(unmet, key, is_at_zero(there), number == 0)?;
-    Ok(())
+    mark_zeros(unmet, stanza, clauses.as_slice())?;
+    numbers.put(stanza, clauses)
 }
 
-// These clauses come in turn.
+// These clauses of a stanza come in turn.
 fn enter_each(
-    clauses: &[(PackedClause, ClauseNumber)],
-    numbers: &mut BTreeMap<PackedClause, ClauseNumber>,
+    alloc: Global,
+    stanza: StanzaKey,
+    coming: &[(ClausePlace, ClauseNumber)],
+    numbers: &mut ClauseNumbers,
     unmet: &mut UnmetSet,
 ) -> Result<(), AllocError>
     requires { AreUnmet numbers.old unmet.old }
-    ensures numbers { OnOk result ((k : ClauseKey) → get clause_cmp numbers.new k
-        ≡ entered clauses.now k (get clause_cmp numbers.old k)) }
+    ensures numbers { OnOk result ((k : ClauseKey) → number_among numbers.new k
+        ≡ come_of (Some stanza) coming.now k (number_among numbers.old k)) }
     ensures unmet { OnOk result (AreUnmet numbers.new unmet.new) }
 {
-    for clause in clauses {
-        enter(clause.0, clause.1.get(), numbers, unmet)?;
-    }
-    Ok(())
+    let clauses = take_stanza(stanza, numbers, unmet).joined(alloc, coming)?;
+    put_stanza(stanza, clauses, numbers, unmet)
 }
 
 // The same, where no clause is left if memory ends in the middle.
 #[tactic(auto, using(crate::proofs::CounterLemmas::unmet_none))]
 fn enter_all(
-    clauses: &[(PackedClause, ClauseNumber)],
-    numbers: &mut BTreeMap<PackedClause, ClauseNumber>,
+    alloc: Global,
+    stanza: StanzaKey,
+    coming: &[(ClausePlace, ClauseNumber)],
+    numbers: &mut ClauseNumbers,
     unmet: &mut UnmetSet,
 ) -> Result<(), AllocError>
     requires { AreUnmet numbers.old unmet.old }
-    ensures numbers { OnOk result ((k : ClauseKey) → get clause_cmp numbers.new k
-        ≡ entered clauses.now k (get clause_cmp numbers.old k)) }
+    ensures numbers { OnOk result ((k : ClauseKey) → number_among numbers.new k
+        ≡ come_of (Some stanza) coming.now k (number_among numbers.old k)) }
     ensures unmet { AreUnmet numbers.new unmet.new }
 {
-    match enter_each(clauses, numbers, unmet) {
+    match enter_each(alloc, stanza, coming, numbers, unmet) {
         Ok(()) => Ok(()),
         Err(error) => {
             numbers.clear();
@@ -194,30 +188,21 @@ fn enter_all(
 impl Counters {
     /// No clause. It takes no memory.
     pub(crate) fn new(alloc: Global) -> Counters
-        ensures { IsEmpty result.numbers }
+        ensures { result.numbers ≡ [] }
     {
         Counters {
             alloc,
-            numbers: BTreeMap::new(alloc),
+            numbers: ClauseNumbers::new(alloc),
             unmet: UnmetSet::new(alloc),
             waiting: Waiting::new(alloc),
         }
     }
 
     /// The number of each clause.
-    pub(crate) fn numbers(&self) -> &BTreeMap<PackedClause, ClauseNumber>
+    pub(crate) fn numbers(&self) -> &ClauseNumbers
         ensures { result.now ≡ self.now.numbers }
     {
         &self.numbers
-    }
-
-    /// The number of a clause, if it is there.
-    pub(crate) fn number(&self, key: ClauseKey) -> Option<u128>
-        ensures { result ≡ get clause_cmp self.now.numbers key }
-    {
-        self.numbers
-            .get(&PackedClause::new(key))
-            .map(|number| number.get())
     }
 
     /// The clauses at 0, in order.
@@ -229,104 +214,102 @@ impl Counters {
 
     /// None waits to be entered from now on.
     pub(crate) fn let_none_wait(&mut self)
-        ensures { (k : ClauseKey) → told self.new.waiting self.new.numbers k ≡ get clause_cmp self.old.numbers k }
+        ensures { (k : ClauseKey) → told self.new.waiting self.new.numbers k ≡ number_among self.old.numbers k }
     {
-        self.waiting = if self.numbers.is_empty() {
-            Waiting::first(self.alloc)
-        } else {
-            Waiting::new(self.alloc)
-        };
+        self.waiting.clear();
     }
 
-    // Where there is no room for a clause behind those that wait, these are entered.
-    fn make_room(&mut self, clause: ClauseKey) -> Result<(), AllocError>
+    // The clauses of this stanza wait from now on, and those of another one are entered.
+    fn begin(&mut self, stanza: StanzaKey) -> Result<(), AllocError>
         ensures told { OnOk result ((k : ClauseKey) → told self.new.waiting self.new.numbers k
             ≡ told self.old.waiting self.old.numbers k) }
-        ensures room { OnOk result (IsBehind self.new.waiting.highest clause) }
+        ensures stanza { OnOk result (self.new.waiting.stanza ≡ Some stanza) }
     {
-        if self.waiting.has_room(clause) {
+        if self.waiting.is_of(stanza) {
             return Ok(());
         }
-        self.enter_waiting()
+        self.enter_waiting()?;
+        self.waiting.stanza = Some(stanza);
+        Ok(())
     }
 
-    /// A clause comes to those that wait to be entered, or is entered at once.
+    /// A clause comes, and waits for the others of its stanza.
     pub(crate) fn wait(&mut self, clause: ClauseKey, number: u128) -> Result<(), AllocError>
         requires { number < 2 ^ 96 }
         ensures { OnOk result ((k : ClauseKey) → told self.new.waiting self.new.numbers k
             ≡ (if is_eq (clause_cmp clause k) then Some number else told self.old.waiting self.old.numbers k)) }
     {
-        self.make_room(clause)?;
-        if self.waiting.put(clause, number)? {
-            let clauses = [counted(clause, number)];
-            enter_all(&clauses, &mut self.numbers, &mut self.unmet)?;
-        }
+        self.begin(clause.stanza)?;
+        let waits = (ClausePlace::of(clause), ClauseNumber::new(number));
+        self.waiting.clauses.push(waits)?;
         Ok(())
     }
 
     /// Those that wait are entered. Where memory is refused, no clause is left.
     pub(crate) fn enter_waiting(&mut self) -> Result<(), AllocError>
-        ensures numbers { OnOk result ((k : ClauseKey) → get clause_cmp self.new.numbers k
+        ensures numbers { OnOk result ((k : ClauseKey) → number_among self.new.numbers k
             ≡ told self.old.waiting self.old.numbers k) }
-        ensures none { OnOk result ((k : ClauseKey) → told self.new.waiting self.new.numbers k ≡ get clause_cmp self.new.numbers k) }
-        ensures lowest { OnOk result (self.new.waiting.highest ≡ None) }
+        ensures none { self.new.waiting.clauses.items ≡ [] }
     {
-        let waiting = mem::replace(&mut self.waiting, Waiting::new(self.alloc));
-        enter_all(&waiting.halfway, &mut self.numbers, &mut self.unmet)?;
-        if waiting.is_first() {
-            let clauses = waiting.between;
-            enter_together(self.alloc, clauses, &mut self.numbers, &mut self.unmet)?;
-        } else {
-            enter_all(&waiting.between, &mut self.numbers, &mut self.unmet)?;
-        }
-        Ok(())
+        let Some(stanza) = self.waiting.stanza else {
+            self.waiting.clear();
+            return Ok(());
+        };
+        let coming = &self.waiting.clauses;
+        let entered = enter_all(
+            self.alloc,
+            stanza,
+            coming,
+            &mut self.numbers,
+            &mut self.unmet,
+        );
+        self.waiting.clear();
+        entered
     }
 
-    /// The clause goes.
-    pub(crate) fn remove(&mut self, key: ClauseKey)
-        ensures { (k : ClauseKey) → get clause_cmp self.new.numbers k
-            ≡ (if is_eq (clause_cmp key k) then None else get clause_cmp self.old.numbers k) }
+    /// The clauses of a stanza go.
+    pub(crate) fn remove(&mut self, stanza: StanzaKey)
+        ensures { (k : ClauseKey) → number_among self.new.numbers k
+            ≡ (if key_is k.stanza stanza then None else number_among self.old.numbers k) }
     {
-        let key = PackedClause::new(key);
-        let _ = self.numbers.remove(&key);
-        self.unmet.remove(key);
+        let _ = take_stanza(stanza, &mut self.numbers, &mut self.unmet);
     }
 
     /// The clause, if it is there, counts one more.
-    pub(crate) fn raise(&mut self, key: ClauseKey)
-        ensures { (k : ClauseKey) → get clause_cmp self.new.numbers k
-            ≡ option_map (counted_up (if is_eq (clause_cmp key k) then 1 else 0))
-            (get clause_cmp self.old.numbers k) }
+    pub(crate) fn raise(&mut self, clause: ClauseKey)
+        ensures { (k : ClauseKey) → number_among self.new.numbers k
+            ≡ option_map (counted_up (if is_eq (clause_cmp clause k) then 1 else 0))
+            (number_among self.old.numbers k) }
     {
-        let key = PackedClause::new(key);
-        match self.numbers.get_mut(&key) {
-            Some(number) => {
-                let counted = number.get();
-                let more = ClauseNumber::new(one_more(counted));
-                unmark(&mut self.unmet, key, counted == 0);
-                *number = more;
-            }
-            None => {}
-        }
+        let before = self.numbers.raise(clause);
+        unmark(
+            &mut self.unmet,
+            PackedClause::new(clause),
+            is_number(before, 0),
+        );
     }
 
-    /// The clause, if it is there, counts one less.
-    pub(crate) fn lower(&mut self, key: ClauseKey) -> Result<(), AllocError>
-        ensures { OnOk result ((k : ClauseKey) → get clause_cmp self.new.numbers k
-            ≡ option_map (λ n. n - (if is_eq (clause_cmp key k) then 1 else 0))
-            (get clause_cmp self.old.numbers k)) }
+    /// The clause, if it is there, counts one less. Where memory is refused, no clause is left.
+    pub(crate) fn lower(&mut self, clause: ClauseKey) -> Result<(), AllocError>
+        ensures { OnOk result ((k : ClauseKey) → number_among self.new.numbers k
+            ≡ option_map (λ n. n - (if is_eq (clause_cmp clause k) then 1 else 0))
+            (number_among self.old.numbers k)) }
     {
-        let key = PackedClause::new(key);
-        match self.numbers.get_mut(&key) {
-            Some(number) => {
-                let counted = number.get();
-                let left = counted.saturating_sub(1);
-                let less = ClauseNumber::new(left);
-                note(&mut self.unmet, key, counted == 0, left == 0)?;
-                *number = less;
-                Ok(())
+        let before = self.numbers.lower(clause);
+        let was_unmet = is_number(before, 0);
+        let is_unmet = is_below(before, 2);
+        match note(
+            &mut self.unmet,
+            PackedClause::new(clause),
+            was_unmet,
+            is_unmet,
+        ) {
+            Ok(()) => Ok(()),
+            Err(error) => {
+                self.numbers.clear();
+                self.unmet.clear();
+                Err(error)
             }
-            None => Ok(()),
         }
     }
 }

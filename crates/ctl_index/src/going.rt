@@ -1,21 +1,18 @@
 //! Stanzas go: their atoms first, and then their offers, so that a pair of their own is tested once.
 
-ghost use Rattle.std.specs.Prelude.{◌≡◌, ◌≤◌, ◌<◌, ◌^◌, ℕ, List, OnOk, None, length, if◌then◌else◌};
-ghost use Rattle.std.specs.BTreeMap.{get};
+ghost use Rattle.std.specs.Prelude.{◌≡◌, ◌≤◌, ℕ, List, OnOk, None, if◌then◌else◌};
 ghost use Rattle.std.specs.List.{list_any, sum_by};
-ghost use Rattle.ctl_index.specs.Clauses.{clause_cmp};
 ghost use Rattle.ctl_index.specs.Inside.TablesByName.{offers_under, namers_under, own_under};
 ghost use Rattle.ctl_index.specs.Inside.TablesCounters.{less_by};
 ghost use Rattle.ctl_index.specs.Inside.TablesHeld.{HasTested, TestsAtMost, namers_in, number_in, offers_in, own_in};
-ghost use Rattle.ctl_index.specs.Inside.TablesLeft.{has_namer, has_namer_at, has_namer_in, has_offer, has_offer_at, hits_at, is_clause_at, is_group_below, is_of_field};
+ghost use Rattle.ctl_index.specs.Inside.TablesLeft.{has_namer, has_namer_at, has_namer_in, has_offer, has_offer_at, hits_at, is_stanza_at};
 ghost use Rattle.ctl_index.specs.Inside.TablesLoaded.{all_hits};
 ghost use Rattle.ctl_index.specs.Inside.TablesOrder.{namer_stanza, offer_stanza, without_if};
-ghost use Rattle.ctl_index.specs.Inside.TablesTests.{all_tested, atoms_tested, atoms_tested_at, fields_tested, group_tested, groups_tested, is_clause, offers_tested, offers_tested_at};
+ghost use Rattle.ctl_index.specs.Inside.TablesTests.{all_tested, atoms_tested, atoms_tested_at, fields_tested, group_tested, groups_tested, offers_tested, offers_tested_at};
 ghost use Rattle.ctl_index.specs.Work.{more_by};
+ghost use Rattle.ctl_index.specs.declared.keys.ClauseKey.{ClauseKey};
 ghost use Rattle.ctl_stanza.specs.Content.{groups_of};
 
-use crate::counters::Counters;
-use crate::keys::ClauseKey;
 use crate::name_table::NameTable;
 use crate::pending_store::{Going, stanza_at};
 use crate::tables::Tables;
@@ -44,86 +41,46 @@ fn take_group(
     }
 }
 
-// The counter of a group, where the group is a clause.
-fn drop_counter(counters: &mut Counters, clause: ClauseKey)
-    ensures { (k : ClauseKey) → get clause_cmp counters.new.numbers k
-        ≡ (if is_clause clause k then None else get clause_cmp counters.old.numbers k) }
-{
-    if clause.field.is_wanted() {
-        counters.remove(clause);
-    }
-}
-
-fn take_groups(
-    going: &Going<'_>,
-    key: StanzaKey,
-    field: FieldKind,
-    groups: Groups<'_>,
-    tables: &mut Tables,
-)
-    requires { length groups < 2 ^ 32 }
+fn take_groups(going: &Going<'_>, field: FieldKind, groups: Groups<'_>, tables: &mut Tables)
     ensures namers { (q : List ℕ) → namers_in tables.new q
         ≡ without_if namer_stanza going.now.span (list_any (has_namer q) groups.entry) (namers_in tables.old q) }
     ensures offers { offers_in tables.new ≡ offers_in tables.old }
     ensures rows { own_in tables.new ≡ own_in tables.old }
-    ensures counts { (k : ClauseKey) → number_in tables.new k
-        ≡ (if is_group_below key field (length groups.entry) k then None else number_in tables.old k) }
+    ensures counts { number_in tables.new ≡ number_in tables.old }
     ensures steps { HasTested (groups_tested going.now.pending field (offers_in tables.old) groups.entry) tables.old tables.new }
 {
     let _count = tables.steps.count();
-    let mut place = 0;
     for group in groups {
-        let clause = ClauseKey {
-            stanza: key,
-            field,
-            group: place,
-        };
         take_group(going, field, &group, &mut tables.names, &mut tables.steps);
-        drop_counter(&mut tables.counters, clause);
-        place += 1;
     }
 }
 
 // The groups of one field.
-fn take_field(
-    going: &Going<'_>,
-    key: StanzaKey,
-    stanza: &Stanza,
-    field: FieldKind,
-    tables: &mut Tables,
-)
+fn take_field(going: &Going<'_>, stanza: &Stanza, field: FieldKind, tables: &mut Tables)
     ensures namers { (q : List ℕ) → namers_in tables.new q
         ≡ without_if namer_stanza going.now.span (has_namer_in q stanza.now field) (namers_in tables.old q) }
     ensures offers { offers_in tables.new ≡ offers_in tables.old }
     ensures rows { own_in tables.new ≡ own_in tables.old }
-    ensures counts { (k : ClauseKey) → number_in tables.new k
-        ≡ (if is_of_field key stanza.now k field then None else number_in tables.old k) }
+    ensures counts { number_in tables.new ≡ number_in tables.old }
     ensures steps { HasTested (groups_tested going.now.pending field (offers_in tables.old)
         (groups_of field stanza.now)) tables.old tables.new }
 {
     let groups = stanza.groups(field);
-    take_groups(going, key, field, groups, tables);
+    take_groups(going, field, groups, tables);
 }
 
 // The groups of these fields.
-fn take_fields(
-    going: &Going<'_>,
-    key: StanzaKey,
-    stanza: &Stanza,
-    fields: &[FieldKind],
-    tables: &mut Tables,
-)
+fn take_fields(going: &Going<'_>, stanza: &Stanza, fields: &[FieldKind], tables: &mut Tables)
     ensures namers { (q : List ℕ) → namers_in tables.new q
         ≡ without_if namer_stanza going.now.span (list_any (has_namer_in q stanza.now) fields.now) (namers_in tables.old q) }
     ensures offers { offers_in tables.new ≡ offers_in tables.old }
     ensures rows { own_in tables.new ≡ own_in tables.old }
-    ensures counts { (k : ClauseKey) → number_in tables.new k
-        ≡ (if list_any (is_of_field key stanza.now k) fields.now then None else number_in tables.old k) }
+    ensures counts { number_in tables.new ≡ number_in tables.old }
     ensures steps { HasTested (fields_tested going.now.pending (offers_in tables.old) fields.now stanza.now) tables.old tables.new }
 {
     let _count = tables.steps.count();
     for field in fields {
-        take_field(going, key, stanza, *field, tables);
+        take_field(going, stanza, *field, tables);
     }
 }
 
@@ -134,25 +91,28 @@ fn take_atoms_at(going: &Going<'_>, key: StanzaKey, tables: &mut Tables)
     ensures offers { offers_in tables.new ≡ offers_in tables.old }
     ensures rows { own_in tables.new ≡ own_in tables.old }
     ensures counts { (k : ClauseKey) → number_in tables.new k
-        ≡ (if is_clause_at going.now.pending k key then None else number_in tables.old k) }
+        ≡ (if is_stanza_at going.now.pending k.stanza key then None else number_in tables.old k) }
     ensures steps { HasTested (atoms_tested_at going.now.pending (offers_in tables.old) key) tables.old tables.new }
 {
     let _count = tables.steps.count();
     match stanza_at(&going.pending, key) {
-        Some(stanza) => take_fields(going, key, stanza, FieldKind::eight(), tables),
+        Some(stanza) => {
+            take_fields(going, stanza, FieldKind::eight(), tables);
+            tables.counters.remove(key);
+        }
         None => {}
     }
 }
 
 /// The atoms of the stanzas under these keys, which are those of the span. They are tested against the offers of their names, and
-/// the clauses go.
+/// the numbers of the clauses go, stanza by stanza.
 pub(crate) fn take_atoms(going: &Going<'_>, keys: &[StanzaKey], tables: &mut Tables)
     ensures namers { (q : List ℕ) → namers_in tables.new q
         ≡ without_if namer_stanza going.now.span (list_any (has_namer_at going.now.pending q) keys.now) (namers_in tables.old q) }
     ensures offers { offers_in tables.new ≡ offers_in tables.old }
     ensures rows { own_in tables.new ≡ own_in tables.old }
     ensures counts { (k : ClauseKey) → number_in tables.new k
-        ≡ (if list_any (is_clause_at going.now.pending k) keys.now then None else number_in tables.old k) }
+        ≡ (if list_any (is_stanza_at going.now.pending k.stanza) keys.now then None else number_in tables.old k) }
     ensures steps { HasTested (atoms_tested going.now.pending (offers_in tables.old) keys.now) tables.old tables.new }
 {
     let _count = tables.steps.count();

@@ -5,9 +5,8 @@ ghost use Rattle.ctl_index.specs.Inside.TablesHeld.{HasTested, TestsAtMost, chos
 ghost use Rattle.ctl_index.specs.Inside.TablesLoaded.{ComeApart, IsLoaded, tests_put_in};
 ghost use Rattle.ctl_index.specs.Inside.TablesPending.{AreThere};
 
-use crate::coming::{put_atoms, put_offers};
+use crate::coming::{put_atoms, put_offers_and_rows};
 use crate::pending_store::PendingStore;
-use crate::rows::put_rows;
 use crate::tables::Tables;
 use ctl_store::StanzaKey;
 use std::alloc::AllocError;
@@ -26,8 +25,7 @@ pub(crate) fn put_list(
     ensures most { TestsAtMost (tests_put_in pending.now keys.now tables.old) tables.old tables.new }
     ensures least { tables.old.steps ≤ tables.new.steps }
 {
-    put_offers(pending, keys, tables)?;
+    put_offers_and_rows(pending, keys, tables)?;
     put_atoms(pending, keys, tables)?;
-    put_rows(pending, keys, &mut tables.names)?;
     Ok(())
 }

@@ -1,7 +1,6 @@
 //! The table of names: who offers each name, the atoms that name it, its rows, and what is chosen of them.
 
 ghost use Rattle.std.specs.Prelude.{◌≡◌, ◌≤◌, ◌<◌, ◌^◌, ◌∷◌, ◌++◌, ◌+◌, ◌-◌, ℕ, [], List, None, Some, OnOk, IfOk, IfSome, IfNone, is_some, option_copied, option_map, true, nat_eq, if◌then◌else◌};
-ghost use Rattle.std.specs.BTreeMap.{get};
 ghost use Rattle.std.specs.Cmp.Lexicographic.{slice_cmp};
 ghost use Rattle.std.specs.FinMap as fin;
 ghost use Rattle.std.specs.Ordering.{nat_cmp};
@@ -13,7 +12,7 @@ ghost use Rattle.ctl_policy.specs.Chosen.{choice_in, no_choice};
 ghost use Rattle.ctl_policy.specs.Kept.{HasPut, HasTaken, OthersStay};
 ghost use Rattle.ctl_policy.specs.Priority.{world_of};
 ghost use Rattle.ctl_policy.specs.Rows.{AreRowsOf};
-ghost use Rattle.ctl_index.specs.Clauses.{clause_cmp};
+ghost use Rattle.ctl_index.specs.Clauses.{number_among};
 ghost use Rattle.ctl_index.specs.Inside.TablesByName.{at_name, HoldsNothing, offers_under, namers_under, own_under, rows_under, chosen_under, AreUsed, is_used, named_namers, named_offers, named_own};
 ghost use Rattle.ctl_index.specs.Inside.TablesChosen.{AreRenewed, HasSameRows, are_asked};
 ghost use Rattle.ctl_index.specs.Inside.TablesPending.{atom_met, atom_tested, missing};
@@ -157,9 +156,9 @@ impl NameTable {
             ≡ sum_by f (offers_under self.old.map q) + (if bytes_eq coming.entry.offer.now.name q then f coming.entry.key else 0)) }
         ensures namers { OnOk result ((q : List ℕ) → namers_under self.new.map q ≡ namers_under self.old.map q) }
         ensures rows { OnOk result ((q : List ℕ) → own_under self.new.map q ≡ own_under self.old.map q) }
-        ensures counts { OnOk result ((k : ClauseKey) → get clause_cmp counters.new.numbers k
+        ensures counts { OnOk result ((k : ClauseKey) → number_among counters.new.numbers k
             ≡ option_map (counted_up (offer_hits pending.now (namers_under self.old.map) coming.entry.offer.now k))
-            (get clause_cmp counters.old.numbers k)) }
+            (number_among counters.old.numbers k)) }
         ensures steps { OnOk result (steps.new
             ≡ more_by (offer_tested pending.now (namers_under self.old.map) coming.entry.offer.now) steps.old) }
         ensures most { steps.new ≤ more_by (offer_tested pending.now (namers_under self.old.map) coming.entry.offer.now) steps.old }
@@ -266,8 +265,8 @@ impl NameTable {
             ≡ without_if offer_stanza going.now.span (bytes_eq offer.now.name q) (offers_under self.old.map q)) }
         ensures namers { OnOk result ((q : List ℕ) → namers_under self.new.map q ≡ namers_under self.old.map q) }
         ensures rows { OnOk result ((q : List ℕ) → own_under self.new.map q ≡ own_under self.old.map q) }
-        ensures counts { OnOk result ((k : ClauseKey) → get clause_cmp counters.new.numbers k
-            ≡ less_by (offer_hits going.now.pending (namers_under self.old.map) offer.now k) (get clause_cmp counters.old.numbers k)) }
+        ensures counts { OnOk result ((k : ClauseKey) → number_among counters.new.numbers k
+            ≡ less_by (offer_hits going.now.pending (namers_under self.old.map) offer.now k) (number_among counters.old.numbers k)) }
         ensures steps { OnOk result (steps.new
             ≡ more_by (offer_tested going.now.pending (namers_under self.old.map) offer.now) steps.old) }
         ensures most { steps.new ≤ more_by (offer_tested going.now.pending (namers_under self.old.map) offer.now) steps.old }

@@ -30,8 +30,8 @@ fn put_row_of(key: StanzaKey, stanza: &Stanza, names: &mut NameTable) -> Result<
     }
 }
 
-// The row of the stanza under a key, if there is one.
-fn put_row_at(
+/// The row of the stanza under a key, if there is one.
+pub(crate) fn put_row_at(
     pending: &PendingStore<'_>,
     key: StanzaKey,
     names: &mut NameTable,
@@ -45,23 +45,6 @@ fn put_row_at(
         Some(stanza) => put_row_of(key, stanza, names),
         None => Ok(()),
     }
-}
-
-/// The keys of the live stanzas among these come into their rows.
-pub(crate) fn put_rows(
-    pending: &PendingStore<'_>,
-    keys: &[StanzaKey],
-    names: &mut NameTable,
-) -> Result<(), AllocError>
-    ensures rows { OnOk result (AreRowsPut (entries_seen pending.now keys.now) (rows_under names.old.map) (rows_under names.new.map)) }
-    ensures chosen { OnOk result (chosen_under names.new.map ≡ chosen_under names.old.map) }
-    ensures offers { OnOk result (offers_under names.new.map ≡ offers_under names.old.map) }
-    ensures namers { OnOk result (namers_under names.new.map ≡ namers_under names.old.map) }
-{
-    for key in keys {
-        put_row_at(pending, *key, names)?;
-    }
-    Ok(())
 }
 
 // The row of a stanza, where it is live.

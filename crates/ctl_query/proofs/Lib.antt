@@ -1,6 +1,7 @@
 pub mod AddedLemmas
 pub mod AnewLemmas
 pub mod AnswerLemmas
+pub mod AskedLemmas
 pub mod AskerLemmas
 pub mod AtomLemmas
 pub mod AtomOrderLemmas

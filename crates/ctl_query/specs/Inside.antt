@@ -1,4 +1,5 @@
 -- How this crate's own functions go about the answers. Callers need none of it.
+pub mod AskedNames
 pub mod Askers
 pub mod KeptLines
 pub mod ListedAtoms

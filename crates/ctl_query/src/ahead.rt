@@ -3,9 +3,15 @@
 
 ghost use Rattle.std.specs.Prelude.{◌≡◌, OnOk};
 
+use crate::askers::AskerTable;
+use crate::asking::AskedName;
 use crate::lead_atoms::ListedAtom;
 use crate::lead_table::LeadTable;
-use std::alloc::AllocError;
+use crate::leads::lead_in;
+use ctl_relation::FieldKind;
+use ctl_stanza::Stanza;
+use ctl_store::Store;
+use std::alloc::{AllocError, Global};
 
 // How many atoms are looked at ahead.
 const AHEAD: usize = 32;
@@ -50,4 +56,158 @@ pub(crate) fn look_ahead(
     ensures { OnOk result (out.new.items ≡ out.old.items) }
 {
     out.reserve(groups_of_fields(table, atoms, at))
+}
+
+// ---- at the texts of leads
+
+// How many bytes the texts of the leads of the next atoms have. Of each its first byte is looked at, so that it is fetched.
+fn bytes_of_texts(table: &AskerTable<'_>, atoms: &[ListedAtom<'_>], at: usize) -> usize {
+    let mut bytes: usize = 0;
+    for place in at..end_of_look(atoms.len(), at) {
+        let Some(atom) = atoms.get(place) else {
+            return bytes;
+        };
+        let text = table.text(atom.at.place);
+        if text.first() == Some(&b' ') {
+            bytes = bytes.saturating_add(text.len());
+        }
+    }
+    bytes
+}
+
+// How many groups there are in the fields of those of the next atoms that are to be read in their stanzas.
+fn groups_to_read(
+    table: &AskerTable<'_>,
+    name: &[u8],
+    atoms: &[ListedAtom<'_>],
+    at: usize,
+) -> usize {
+    let mut groups: usize = 0;
+    for place in at..end_of_look(atoms.len(), at) {
+        let Some(atom) = atoms.get(place) else {
+            return groups;
+        };
+        if atom.namer.atom(name).is_some() {
+            continue;
+        }
+        if let Some(lead) = table.table().lead(atom.at.place) {
+            groups = groups.saturating_add(lead.groups(atom.at.field).len());
+        }
+    }
+    groups
+}
+
+/// The same, where lines are written with the texts of leads, and most atoms with a name are kept beside their keys.
+pub(crate) fn look_ahead_at_texts(
+    table: &AskerTable<'_>,
+    name: &[u8],
+    atoms: &[ListedAtom<'_>],
+    at: usize,
+    out: &mut Vec<u8>,
+) -> Result<(), AllocError>
+    ensures { OnOk result (out.new.items ≡ out.old.items) }
+{
+    let bytes = bytes_of_texts(table, atoms, at);
+    let groups = groups_to_read(table, name, atoms, at);
+    out.reserve(bytes.saturating_add(groups))
+}
+
+// ---- at names that are asked for
+
+// How many stanzas there are in the newest rows of the next names.
+fn stanzas_of_rows(asked: &[AskedName<'_>], at: usize) -> usize {
+    let mut stanzas: usize = 0;
+    for place in at..end_of_look(asked.len(), at) {
+        let Some(one) = asked.get(place) else {
+            return stanzas;
+        };
+        if let Some(row) = one.view.rows().next() {
+            stanzas = stanzas.saturating_add(row.len());
+        }
+    }
+    stanzas
+}
+
+// How many of the next names are named by an atom in the first group of a field before all others.
+fn named_first(asked: &[AskedName<'_>], at: usize) -> usize {
+    let mut named: usize = 0;
+    for place in at..end_of_look(asked.len(), at) {
+        let Some(one) = asked.get(place) else {
+            return named;
+        };
+        if let Some(namer) = one.view.kept_namers().next() {
+            named = named.saturating_add((namer.key().group == 0) as usize);
+        }
+    }
+    named
+}
+
+// The leads of the newest rows of the next names.
+fn newest_leads<'a>(
+    alloc: Global,
+    store: &'a Store,
+    asked: &[AskedName<'_>],
+    at: usize,
+) -> Result<Vec<&'a Stanza>, AllocError> {
+    let mut leads = Vec::with_capacity(alloc, AHEAD)?;
+    for place in at..end_of_look(asked.len(), at) {
+        let Some(one) = asked.get(place) else {
+            return Ok(leads);
+        };
+        if let Some(row) = one.view.rows().next() {
+            if let Some(lead) = lead_in(store, row) {
+                leads.push(lead)?;
+            }
+        }
+    }
+    Ok(leads)
+}
+
+// How many of some leads are live, and how many groups they depend on.
+fn groups_of_leads(leads: &[&Stanza]) -> usize {
+    let mut groups: usize = 0;
+    for lead in leads {
+        groups = groups.saturating_add(lead.version().is_some() as usize);
+    }
+    for lead in leads {
+        groups = groups.saturating_add(lead.groups(FieldKind::Depends).len());
+    }
+    groups
+}
+
+// How many of some leads depend on one of these bytes first, which none does: it is looked at where that text begins.
+fn leads_that_depend_first_on(name: &[u8], leads: &[&Stanza]) -> usize {
+    let mut count: usize = 0;
+    for lead in leads {
+        if let Some(group) = lead.groups(FieldKind::Depends).get(0) {
+            count = count.saturating_add(group.has_name(name) as usize);
+        }
+    }
+    count
+}
+
+/// Looks at what the next names are told of by, where those before are written; in between it does nothing. What stands under each
+/// is gone to, then its leads, and then the fields of these, each of all names at once.
+pub(crate) fn look_ahead_at_names(
+    store: &Store,
+    asked: &[AskedName<'_>],
+    at: usize,
+    out: &mut Vec<u8>,
+) -> Result<(), AllocError>
+    ensures { OnOk result (out.new.items ≡ out.old.items) }
+{
+    if end_of_look(asked.len(), at) == at {
+        return Ok(());
+    }
+    let stanzas = stanzas_of_rows(asked, at);
+    let named = named_first(asked, at);
+    let leads = newest_leads(*out.allocator(), store, asked, at)?;
+    let groups = groups_of_leads(&leads);
+    let first = leads_that_depend_first_on(b"-", &leads);
+    out.reserve(
+        stanzas
+            .saturating_add(named)
+            .saturating_add(groups)
+            .saturating_add(first),
+    )
 }

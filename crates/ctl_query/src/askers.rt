@@ -122,6 +122,14 @@ impl<'a> AskerTable<'a> {
         &self.table
     }
 
+    /// The text of the lead at a place. None has none.
+    pub(crate) fn text(&self, place: usize) -> &[u8] {
+        match self.askers.get(place) {
+            Some(asker) => asker.text,
+            None => &[],
+        }
+    }
+
     /// The lead at a place, with its text.
     pub(crate) fn asker(&self, place: usize) -> Option<Asker<'_>>
         ensures { option_map lent_asker result ≡ option_map (λ (e : Entry). (e.1, asker e.1)) (slice_get self.now place) }

@@ -1,7 +1,7 @@
 //! What an answer is asked of: a cache that isn't stale, and what stands in it under names.
 
 ghost use Rattle.std.specs.Prelude.{◌≡◌, ◌&&◌, ℕ, List, IfOk, IsSome, Some, true, false, map};
-ghost use Rattle.std.specs.List.{AllByRecursion};
+ghost use Rattle.std.specs.List.{All, AllByRecursion};
 ghost use Rattle.std.specs.Cmp.Lexicographic.{slice_cmp};
 ghost use Rattle.std.specs.List.Sorted.{IsPermutation, IsStrictlySortedBy};
 ghost use Rattle.std.specs.Ordering.{nat_cmp, is_le};
@@ -17,6 +17,7 @@ ghost use Rattle.ctl_policy.specs.Candidate.{candidate_of};
 ghost use Rattle.ctl_policy.specs.Chosen.{choice_in};
 ghost use Rattle.ctl_policy.specs.Priority.{world_of};
 ghost use Rattle.ctl_policy.specs.Rows.{keys_of_row, lead_at, newest_first, rows_named};
+ghost use Rattle.ctl_query.specs.Inside.AskedNames.{IsLookedUp, names_asked};
 ghost use Rattle.ctl_query.specs.Interest.{offering_named};
 ghost use Rattle.ctl_query.specs.Leads.{leads_named};
 ghost use Rattle.ctl_query.specs.NameSet.{is_among};
@@ -29,7 +30,7 @@ use ctl_index::{
     UnmetClauses,
 };
 use ctl_policy::{NewestFirst, rows_are_classes};
-use ctl_relation::Version;
+use ctl_relation::{Bytes, Version};
 use ctl_store::{StanzaKey, Store};
 use std::alloc::{AllocError, Global};
 use std::marker::Model;
@@ -206,4 +207,28 @@ impl<'a> Asking<'a> {
     {
         self.cache.satisfiers(clause)
     }
+}
+
+// A name with what stands under it.
+fn asked_of<'a>(asking: &Asking<'a>, name: &'a [u8]) -> AskedName<'a>
+    ensures name { result.name.now ≡ name.now }
+    ensures looked_up { IsLookedUp asking.now result }
+{
+    let view = asking.view(name);
+    AskedName { name, view }
+}
+
+/// Names with what stands under each.
+pub(crate) fn look_up<'a>(
+    asking: &Asking<'a>,
+    names: &'a [Bytes],
+) -> Result<Vec<AskedName<'a>>, AllocError>
+    ensures names { IfOk result (λ asked. names_asked asked.items ≡ names.now) }
+    ensures looked_up { IfOk result (λ asked. All (IsLookedUp asking.now) asked.items) }
+{
+    let mut asked = Vec::with_capacity(asking.alloc(), names.len())?;
+    for name in names {
+        asked.push(asked_of(asking, name.as_slice()))?;
+    }
+    Ok(asked)
 }

@@ -12,6 +12,7 @@ ghost use Rattle.ctl_query.specs.Inside.ListedAtoms.{places_in, listed_at, IsKep
 ghost use Rattle.ctl_query.specs.LeadTable.{lent_leads};
 ghost use Rattle.ctl_query.specs.ShowPackage.{asker};
 
+use crate::ahead::look_ahead_at_texts;
 use crate::askers::{Asker, AskerTable};
 use crate::lead_lines::append_naming_line;
 use crate::lead_table::LeadTable;
@@ -19,7 +20,7 @@ use ctl_index::{KeptNamer, KeptNamers};
 use ctl_relation::{Atom, FieldKind};
 use ctl_stanza::Stanza;
 use ctl_store::{StanzaKey, compare_keys};
-use std::alloc::{AllocError, Global};
+use std::alloc::AllocError;
 
 /// Where an atom of a lead stands: the place of its lead among all leads, its field, the place of its group in the field and its
 /// own in the group, counted from 0. They stand in the order of these parts.
@@ -152,24 +153,25 @@ fn put_in_order(atoms: &mut Vec<ListedAtom<'_>>)
     }
 }
 
-/// The atoms of leads that name what these keys name, in order, each once.
+/// Lists the atoms of leads that name what these keys name, in order, each once, in place of those that were listed before: one
+/// list serves for name after name.
 pub(crate) fn list_atoms<'a>(
-    alloc: Global,
     table: &LeadTable<'_>,
     namers: KeptNamers<'a>,
-) -> Result<Vec<ListedAtom<'a>>, AllocError>
-    ensures order { IfOk result (λ atoms. IsStrictlySortedBy lead_atom_cmp (places_in atoms.items)) }
-    ensures members { IfOk result (λ atoms. (a : LeadAtom) → is_listed (places_in atoms.items) a
+    atoms: &mut Vec<ListedAtom<'a>>,
+) -> Result<(), AllocError>
+    ensures order { OnOk result (IsStrictlySortedBy lead_atom_cmp (places_in atoms.new.items)) }
+    ensures members { OnOk result ((a : LeadAtom) → is_listed (places_in atoms.new.items) a
         ≡ list_any (λ (n : KeyAndKept). is_at table.now n.0 a) namers.entry) }
-    ensures kept { IfOk result (λ atoms. (name : List ℕ) → All (IsKeptOf table.now name) namers.entry
-        → All (IsKept table.now name) atoms.items) }
+    ensures kept { OnOk result ((name : List ℕ) → All (IsKeptOf table.now name) namers.entry
+        → All (IsKept table.now name) atoms.new.items) }
 {
-    let mut atoms = Vec::with_capacity(alloc, namers.len())?;
+    atoms.clear();
     'namers: for namer in namers {
-        push_atom(&mut atoms, table, namer)?;
+        push_atom(atoms, table, namer)?;
     }
-    put_in_order(&mut atoms);
-    Ok(atoms)
+    put_in_order(atoms);
+    Ok(())
 }
 
 /// The atom of a lead, if it is there, read in its field.
@@ -180,18 +182,25 @@ fn atom_in(lead: &Stanza, atom: LeadAtom) -> Option<Atom<'_>>
     group.get(atom.atom as usize)
 }
 
-/// The same of an atom that has a name. What is kept of it is not read again.
-fn atom_naming<'a>(lead: &'a Stanza, name: &'a [u8], listed: &'a ListedAtom<'_>) -> Option<Atom<'a>>
-    requires { IsKeptIn lead.now name.now listed.now }
-    ensures { result ≡ atom_in listed.now.at lead.now }
+/// Appends the line of an atom of a lead, which is read in its field.
+#[tactic(auto, using(crate::proofs::KeptLemmas::named_line))]
+fn append_read(
+    from: &Asker<'_>,
+    name: &[u8],
+    listed: &ListedAtom<'_>,
+    out: &mut Vec<u8>,
+) -> Result<(), AllocError>
+    requires kept { IsKeptIn from.now.lead.now name.now listed.now }
+    requires text { from.now.text.now ≡ asker from.now.lead.now }
+    ensures { OnOk result (out.new.items ≡ out.old.items ++ line_in name.now listed.now.at from.now.lead.now) }
 {
-    match listed.namer.atom(name) {
-        Some(atom) => Some(atom),
-        None => atom_in(lead, listed.at),
+    match atom_in(from.lead, listed.at) {
+        Some(found) => append_naming_line(from.text, listed.at.field, &found, out),
+        None => Ok(()),
     }
 }
 
-/// Appends the line of an atom of a lead.
+/// Appends the line of an atom of a lead. What is kept of it is not read again.
 #[tactic(auto, using(crate::proofs::KeptLemmas::named_line))]
 fn append_atom_of(
     from: &Asker<'_>,
@@ -203,9 +212,9 @@ fn append_atom_of(
     requires text { from.now.text.now ≡ asker from.now.lead.now }
     ensures { OnOk result (out.new.items ≡ out.old.items ++ line_in name.now listed.now.at from.now.lead.now) }
 {
-    match atom_naming(from.lead, name, listed) {
-        Some(found) => append_naming_line(from.text, listed.at.field, &found, out),
-        None => Ok(()),
+    match listed.namer.atom(name) {
+        Some(kept) => append_naming_line(from.text, listed.at.field, &kept, out),
+        None => append_read(from, name, listed, out),
     }
 }
 
@@ -236,8 +245,9 @@ pub(crate) fn append_atoms(
     ensures { OnOk result (out.new.items ≡ out.old.items
         ++ flat_map (λ (listed : ListedAtom). line_at table.now name.now listed.at) atoms.now) }
 {
-    for listed in atoms {
-        append_atom(table, name, listed, out)?;
+    for at in 0..atoms.len() {
+        look_ahead_at_texts(table, name, atoms, at, out)?;
+        append_atom(table, name, &atoms[at], out)?;
     }
     Ok(())
 }

@@ -1,7 +1,7 @@
 //! The answer to `showpkg`.
 
 ghost use Rattle.std.specs.Prelude.{◌≡◌, ◌++◌, ◌∷◌, [], OnOk, IfOk, IfSome, codes, false, flat_map};
-ghost use Rattle.std.specs.List.{AllByRecursion};
+ghost use Rattle.std.specs.List.{All, AllByRecursion};
 ghost use Rattle.std.specs.List.Sorted.{IsPermutation};
 ghost use Rattle.ctl_store.specs.Store.{keyed_of};
 ghost use Rattle.ctl_store.specs.Keys.{AreHeld, AreRising};
@@ -9,6 +9,7 @@ ghost use Rattle.ctl_index.specs.HeldCache.{standing};
 ghost use Rattle.ctl_index.specs.Names.{kept_namers_named};
 ghost use Rattle.ctl_policy.specs.Priority.{world_of};
 ghost use Rattle.ctl_policy.specs.Rows.{sources_of};
+ghost use Rattle.ctl_query.specs.Inside.AskedNames.{IsLookedUp, names_asked};
 ghost use Rattle.ctl_query.specs.Interest.{offering_named};
 ghost use Rattle.ctl_query.specs.Leads.{leads_of};
 ghost use Rattle.ctl_query.specs.LeadTable.{AreEnough};
@@ -19,10 +20,11 @@ ghost use Rattle.ctl_query.specs.ShowPackage.{providing_lines, show_package_one,
 ghost use Rattle.ctl_filter.specs.Texts.{line};
 ghost use Rattle.ctl_query.specs.Texts.{if_known};
 
+use crate::ahead::look_ahead_at_names;
 use crate::askers::AskerTable;
-use crate::asking::{AskedName, Asking};
+use crate::asking::{AskedName, Asking, look_up};
 use crate::interest::{packages_providing, stanzas_are_found};
-use crate::lead_atoms::{append_atoms, list_atoms};
+use crate::lead_atoms::{ListedAtom, append_atoms, list_atoms};
 use crate::lead_lines::{append_entry_lines, append_providing_lines, append_relation_lines};
 use crate::lead_table::LeadTable;
 use crate::leads::Leads;
@@ -66,10 +68,11 @@ fn append_version(store: &Store, row: &[StanzaKey], out: &mut Vec<u8>) -> Result
 // ---- who names it
 
 /// Appends the atoms that name a name, by a table of leads: each is gone to by its key, and no name is looked for.
-fn append_by_atoms(
+fn append_by_atoms<'a>(
     asking: &Asking<'_>,
     table: &AskerTable<'_>,
-    asked: &AskedName<'_>,
+    asked: &AskedName<'a>,
+    atoms: &mut Vec<ListedAtom<'a>>,
     out: &mut Vec<u8>,
 ) -> Result<(), AllocError>
     requires enough { AreEnough asking.now asked.now.name.now table.now }
@@ -78,17 +81,18 @@ fn append_by_atoms(
 {
     rows_are_classes();
     stanzas_are_found(asking);
-    let atoms = list_atoms(asking.alloc(), table.table(), asked.view.kept_namers())?;
-    append_atoms(table, asked.name, &atoms, out)?;
+    list_atoms(table.table(), asked.view.kept_namers(), atoms)?;
+    append_atoms(table, asked.name, atoms, out)?;
     Ok(())
 }
 
 /// Appends the atoms that name a name: by a table of all leads if there is one, else those of the packages with such an atom are
 /// enough.
-fn append_naming(
+fn append_naming<'a>(
     asking: &Asking<'_>,
     table: Option<&AskerTable<'_>>,
-    asked: &AskedName<'_>,
+    asked: &AskedName<'a>,
+    atoms: &mut Vec<ListedAtom<'a>>,
     out: &mut Vec<u8>,
 ) -> Result<(), AllocError>
     requires leads { IfSome table (λ table. table.now ≡ leads_of (world_of asking.now)) }
@@ -96,10 +100,10 @@ fn append_naming(
     ensures { OnOk result (out.new.items ≡ out.old.items ++ of_all_rows (world_of asking.now) (naming_lines asked.now.name.now)) }
 {
     match table {
-        Some(table) => append_by_atoms(asking, table, asked, out),
+        Some(table) => append_by_atoms(asking, table, asked, atoms, out),
         None => {
             let table = AskerTable::new(asking.alloc(), LeadTable::of_askers(asking, asked.name)?)?;
-            append_by_atoms(asking, &table, asked, out)
+            append_by_atoms(asking, &table, asked, atoms, out)
         }
     }
 }
@@ -172,10 +176,11 @@ fn show_versions(
     Ok(())
 }
 
-fn show_namers(
+fn show_namers<'a>(
     asking: &Asking<'_>,
     table: Option<&AskerTable<'_>>,
-    asked: &AskedName<'_>,
+    asked: &AskedName<'a>,
+    atoms: &mut Vec<ListedAtom<'a>>,
     out: &mut Vec<u8>,
 ) -> Result<(), AllocError>
     requires leads { IfSome table (λ table. table.now ≡ leads_of (world_of asking.now)) }
@@ -184,7 +189,7 @@ fn show_namers(
         ++ of_all_rows (world_of asking.now) (naming_lines asked.now.name.now))) }
 {
     out.extend_from_slice(b"Reverse Depends:\n")?;
-    append_naming(asking, table, asked, out)?;
+    append_naming(asking, table, asked, atoms, out)?;
     Ok(())
 }
 
@@ -227,10 +232,11 @@ fn show_providers(
 
 /// Appends the answer on a known name.
 #[tactic(auto, unfolding(crate::specs::ShowPackage::show_package_one))]
-fn append_known(
+fn append_known<'a>(
     asking: &Asking<'_>,
     table: Option<&AskerTable<'_>>,
-    asked: &AskedName<'_>,
+    asked: &AskedName<'a>,
+    atoms: &mut Vec<ListedAtom<'a>>,
     out: &mut Vec<u8>,
 ) -> Result<(), AllocError>
     requires leads { IfSome table (λ table. table.now ≡ leads_of (world_of asking.now)) }
@@ -243,59 +249,65 @@ fn append_known(
 {
     append_line(out, &[b"Package: ", asked.name])?;
     show_versions(asking, asked.view.rows(), out)?;
-    show_namers(asking, table, asked, out)?;
+    show_namers(asking, table, asked, atoms, out)?;
     show_relations(asking.store(), asked.view.rows(), out)?;
     show_entries(asking.store(), asked.view.rows(), out)?;
     show_providers(asking, asked.view.offering(), asked.name, out)
 }
 
-fn append_one(
-    asking: &Asking<'_>,
+/// Appends the answer on a name. The list of atoms serves again for the next one.
+fn append_one<'a>(
+    asking: &Asking<'a>,
     table: Option<&AskerTable<'_>>,
-    name: &[u8],
+    asked: &AskedName<'a>,
+    atoms: &mut Vec<ListedAtom<'a>>,
     out: &mut Vec<u8>,
 ) -> Result<(), AllocError>
     requires leads { IfSome table (λ table. table.now ≡ leads_of (world_of asking.now)) }
+    requires looked_up { IsLookedUp asking.now asked.now }
     ensures { OnOk result (out.new.items ≡ out.old.items
-        ++ if_known (world_of asking.now) (show_package_one (world_of asking.now)) name.now) }
+        ++ if_known (world_of asking.now) (show_package_one (world_of asking.now)) asked.now.name.now) }
 {
-    let view = asking.view(name);
-    if !view.is_known() {
-        append_unknown(out, name)?;
+    if !asked.view.is_known() {
+        append_unknown(out, asked.name)?;
         return Ok(());
     }
-    append_known(asking, table, &AskedName { name, view }, out)?;
+    append_known(asking, table, asked, atoms, out)?;
     Ok(())
 }
 
-fn append_each(
-    asking: &Asking<'_>,
+fn append_each<'a>(
+    asking: &Asking<'a>,
     table: Option<&AskerTable<'_>>,
-    names: &[Bytes],
+    asked: &[AskedName<'a>],
     out: &mut Vec<u8>,
 ) -> Result<(), AllocError>
     requires leads { IfSome table (λ table. table.now ≡ leads_of (world_of asking.now)) }
-    ensures { OnOk result (out.new.items ≡ out.old.items ++ show_package_text (world_of asking.now) names.now) }
+    requires looked_up { All (IsLookedUp asking.now) asked.now }
+    ensures { OnOk result (out.new.items ≡ out.old.items ++ show_package_text (world_of asking.now) (names_asked asked.now)) }
 {
-    for name in names {
-        append_one(asking, table, name.as_slice(), out)?;
+    let mut atoms = Vec::new(asking.alloc());
+    for at in 0..asked.len() {
+        look_ahead_at_names(asking.store(), asked, at, out)?;
+        append_one(asking, table, &asked[at], &mut atoms, out)?;
     }
     Ok(())
 }
 
 /// Appends the answer to `showpkg`.
-pub(crate) fn append_show_package(
-    asking: &Asking<'_>,
-    names: &[Bytes],
+pub(crate) fn append_show_package<'a>(
+    asking: &Asking<'a>,
+    names: &'a [Bytes],
     out: &mut Vec<u8>,
 ) -> Result<(), AllocError>
     ensures { OnOk result (out.new.items ≡ out.old.items ++ show_package_text (world_of asking.now) names.now) }
 {
+    let asked = look_up(asking, names)?;
     match LeadTable::for_names(asking, names.len())? {
         Some(table) => {
             let table = AskerTable::new(asking.alloc(), table)?;
-            append_each(asking, Some(&table), names, out)
+            append_each(asking, Some(&table), &asked, out)
         }
-        None => append_each(asking, None, names, out),
+        None => append_each(asking, None, &asked, out),
     }
 }

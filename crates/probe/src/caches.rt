@@ -55,11 +55,10 @@ fn say_by_name(cache: &Cache, said: &mut Said)
 fn say_counters(cache: &Cache, said: &mut Said)
     requires { cache.now.stale ≡ false }
 {
-    for (packed, number) in cache.counters() {
-        let key = packed.key();
+    for (key, number) in cache.counters().iter() {
         said.add(b" counter=");
         say_clause(b".", key.stanza, key.field, key.group, said);
-        said.number(b":", number.get());
+        said.number(b":", number);
     }
 }
 

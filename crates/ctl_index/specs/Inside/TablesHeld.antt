@@ -1,6 +1,5 @@
 -- Of the tables alone: what stands in them, and how many tests they count.
 use Rattle.std.specs.Prelude.{◌≡◌, ◌≤◌, ℕ, List, Option}
-use Rattle.std.specs.BTreeMap.{get}
 use Rattle.ctl_policy.specs.declared.chosen.Chosen.{Chosen}
 use Rattle.ctl_policy.specs.Rows.{Rows}
 use Rattle.ctl_index.specs.declared.keys.ClauseKey.{ClauseKey}
@@ -8,7 +7,7 @@ use Rattle.ctl_index.specs.declared.keys.NamingAtom.{NamingAtom}
 use Rattle.ctl_index.specs.declared.keys.OfferKey.{OfferKey}
 use Rattle.ctl_index.specs.declared.named.ChosenRows.{ChosenRows}
 use Rattle.ctl_index.specs.declared.tables.Tables.{Tables}
-use Rattle.ctl_index.specs.Clauses.{clause_cmp}
+use Rattle.ctl_index.specs.Clauses.{number_among}
 use Rattle.ctl_index.specs.Inside.TablesByName.{offers_under, namers_under, own_under, rows_under, chosen_under}
 use Rattle.ctl_index.specs.Inside.TablesWaiting.{told}
 use Rattle.ctl_index.specs.Work.{more_by}
@@ -31,7 +30,7 @@ chosen_in t = chosen_under t.names.map
 
 -- the number of a clause; the same, once those are entered that wait
 abbrev pub number_in : Tables → ClauseKey → Option ℕ
-number_in t k = get clause_cmp t.counters.numbers k
+number_in t k = number_among t.counters.numbers k
 
 abbrev pub number_told : Tables → ClauseKey → Option ℕ
 number_told t k = told t.counters.waiting t.counters.numbers k

@@ -1,10 +1,9 @@
 -- Of the tables alone: what stanzas that go leave of them.
-use Rattle.std.specs.Prelude.{◌≡◌, ℕ, ◌+◌, ◌&&◌, Bool, false, List, length, nat_eq, nat_lt, None, is_some, if◌then◌else◌}
+use Rattle.std.specs.Prelude.{◌≡◌, ℕ, ◌+◌, ◌&&◌, Bool, false, List, None, is_some, if◌then◌else◌}
 use Rattle.std.specs.List.{list_any, sum_by}
-use Rattle.std.specs.Option.{option_map_or, option_and_then}
+use Rattle.std.specs.Option.{option_map_or}
 use Rattle.std.specs.Str.{bytes_eq}
 use Rattle.ctl_relation.specs.declared.field_kind.FieldKind.{FieldKind}
-use Rattle.ctl_relation.specs.FieldKind.{field_place}
 use Rattle.ctl_relation.specs.Parts.{AtomParts, OfferParts}
 use Rattle.ctl_stanza.specs.Content.{Content, groups_of, offers_of}
 use Rattle.ctl_store.specs.declared.stanza_key.StanzaKey.{StanzaKey}
@@ -13,7 +12,6 @@ use Rattle.ctl_index.specs.declared.keys.ClauseKey.{ClauseKey}
 use Rattle.ctl_index.specs.declared.keys.NamingAtom.{NamingAtom}
 use Rattle.ctl_index.specs.declared.keys.OfferKey.{OfferKey}
 use Rattle.ctl_index.specs.declared.tables.Tables.{Tables}
-use Rattle.ctl_index.specs.Clauses.{is_clause_field, clause_of}
 use Rattle.ctl_index.specs.Names.{naming_fields}
 use Rattle.ctl_index.specs.Offers.{is_offered}
 use Rattle.ctl_index.specs.Inside.TablesCounters.{less_by}
@@ -48,18 +46,9 @@ has_namer_at s q key = option_map_or (λ x. list_any (has_namer_in q x) naming_f
 
 -- ---- the number of a clause k
 
--- whether it is one of the first n groups of a field, of the stanza under a key
-abbrev pub is_group_below : StanzaKey → FieldKind → ℕ → ClauseKey → Bool
-is_group_below key field n k =
-    is_clause_field field && (key_is k.stanza key && (nat_eq (field_place field) (field_place k.field) && nat_lt k.group n))
-
--- whether it is one of the field
-abbrev pub is_of_field : StanzaKey → Content → ClauseKey → FieldKind → Bool
-is_of_field key stanza k field = is_group_below key field (length (groups_of field stanza)) k
-
--- whether it is one of the stanza that is seen under a key
-abbrev pub is_clause_at : Pending → ClauseKey → StanzaKey → Bool
-is_clause_at s k key = key_is k.stanza key && is_some (option_and_then (clause_of k) (seen s key))
+-- whether a key is that of a stanza that is seen under it
+abbrev pub is_stanza_at : Pending → StanzaKey → StanzaKey → Bool
+is_stanza_at s q key = key_is q key && is_some (seen s key)
 
 -- how often it is hit by what the stanza under a key offers
 abbrev pub hits_at : Pending → (List ℕ → List NamingAtom) → ClauseKey → StanzaKey → ℕ
@@ -81,7 +70,7 @@ pub record IsTakenOut (s : Pending) (keys : List StanzaKey) (old new : Tables) :
   pub offers : (q : List ℕ) → offers_in new q ≡ offers_taken s keys old q
   pub namers : (q : List ℕ) → namers_in new q ≡ namers_taken s keys old q
   pub counters : (k : ClauseKey) → number_in new k
-      ≡ less_by (sum_by (hits_at s (namers_taken s keys old) k) keys) (if list_any (is_clause_at s k) keys then None else number_in old k)
+      ≡ less_by (sum_by (hits_at s (namers_taken s keys old) k) keys) (if list_any (is_stanza_at s k.stanza) keys then None else number_in old k)
   pub rows : AreRowsTaken (entries_seen s keys) (rows_in old) (rows_in new)
 
 -- how many tests are made

@@ -1,13 +1,12 @@
 //! What a cache tells: its store, and, where it isn't stale, what stands in its tables, lent.
 
 ghost use Rattle.std.specs.Prelude.{◌≡◌, ℕ, List, Some, IsSome, false, length, map, option_map};
-ghost use Rattle.std.specs.BTreeMap.{get};
 ghost use Rattle.std.specs.List.Sorted.{IsPermutation};
 ghost use Rattle.ctl_relation.specs.Parts.{OfferParts};
 ghost use Rattle.ctl_store.specs.declared.stanza_key.StanzaKey.{StanzaKey};
 ghost use Rattle.ctl_store.specs.Keys.{AreHeld};
 ghost use Rattle.ctl_store.specs.Store.{keyed_of, state_of};
-ghost use Rattle.ctl_index.specs.Clauses.{clause_cmp, clause_at, number_at, unmet_clauses};
+ghost use Rattle.ctl_index.specs.Clauses.{clause_at, number_at, unmet_clauses, number_among};
 ghost use Rattle.ctl_index.specs.HeldCache.{standing};
 ghost use Rattle.ctl_index.specs.Inside.NameMap.{entry_names};
 ghost use Rattle.ctl_index.specs.Names.{known_names, namers_named, with_name};
@@ -17,15 +16,13 @@ ghost use Rattle.ctl_index.specs.Inside.TablesViews.{offering};
 ghost use Rattle.ctl_index.specs.Work.{stanzas_of_state};
 
 use crate::cache::Cache;
-use crate::clause_number::ClauseNumber;
+use crate::clause_numbers::ClauseNumbers;
 use crate::keys::{AtomKey, ClauseKey, NamingAtom, OfferKey};
 use crate::name_entries::NameEntries;
-use crate::packed_clause::PackedClause;
 use crate::pending_store::{PendingStore, offer_at};
 use crate::unmet_set::UnmetClauses;
 use ctl_relation::{Atom, Offer};
 use ctl_store::{StanzaKey, Store};
-use std::collections::BTreeMap;
 use std::marker::Model;
 
 /// The names that are known, by [`Cache::names`], in the order of their bytes.
@@ -346,7 +343,7 @@ impl Cache {
         requires clause { IsSome (clause_at clause (standing self.now.store)) }
         ensures { Some result ≡ number_at clause (standing self.now.store) }
     {
-        match self.tables.counters.number(clause) {
+        match self.tables.counters.numbers().get(clause) {
             Some(number) => number,
             None => unreachable!(),
         }
@@ -363,9 +360,9 @@ impl Cache {
     }
 
     /// The number of each clause.
-    pub fn counters(&self) -> &BTreeMap<PackedClause, ClauseNumber>
+    pub fn counters(&self) -> &ClauseNumbers
         requires { self.now.stale ≡ false }
-        ensures { (k : ClauseKey) → get clause_cmp result.now k ≡ number_at k (standing self.now.store) }
+        ensures { (k : ClauseKey) → number_among result.now k ≡ number_at k (standing self.now.store) }
     {
         self.tables.counters.numbers()
     }

@@ -5,7 +5,7 @@ ghost use Rattle.std.specs.Prelude.{◌≡◌, false};
 use crate::runs::say_summary;
 use crate::said::Said;
 use crate::shown::{say_counts, say_pins, say_state};
-use ctl_index::{Cache, ClauseKey, PackedClause};
+use ctl_index::{Cache, ClauseKey};
 use ctl_relation::Version;
 use ctl_session::{Fault, Session, Summary};
 use ctl_stanza::Stanza;
@@ -68,7 +68,7 @@ fn say_clause(store: &Store, key: ClauseKey, number: u128, said: &mut Said) {
 fn asked_number(cache: &Cache, key: ClauseKey) -> u128
     requires { cache.now.stale ≡ false }
 {
-    match cache.counters().get(&PackedClause::new(key)) {
+    match cache.counters().get(key) {
         Some(_) => cache.satisfiers(key),
         None => 0,
     }
@@ -78,8 +78,8 @@ fn asked_number(cache: &Cache, key: ClauseKey) -> u128
 fn say_kept(cache: &Cache, said: &mut Said)
     requires { cache.now.stale ≡ false }
 {
-    for (key, kept) in cache.counters() {
-        say_clause(cache.store(), key.key(), kept.get(), said);
+    for (key, kept) in cache.counters().iter() {
+        say_clause(cache.store(), key, kept, said);
     }
 }
 
@@ -87,13 +87,8 @@ fn say_kept(cache: &Cache, said: &mut Said)
 fn say_told(cache: &Cache, said: &mut Said)
     requires { cache.now.stale ≡ false }
 {
-    for (key, _) in cache.counters() {
-        say_clause(
-            cache.store(),
-            key.key(),
-            asked_number(cache, key.key()),
-            said,
-        );
+    for (key, _) in cache.counters().iter() {
+        say_clause(cache.store(), key, asked_number(cache, key), said);
     }
 }
 

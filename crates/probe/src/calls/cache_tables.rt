@@ -3,7 +3,7 @@
 ghost use Rattle.std.specs.Prelude.{◌≡◌, false};
 
 use crate::said::{OUT_OF_MEMORY, Said};
-use ctl_index::{AtomKey, Cache, ClauseKey, Namers, PackageNames, PackedClause};
+use ctl_index::{AtomKey, Cache, ClauseKey, Namers, PackageNames};
 use ctl_relation::{FieldKind, Offer, Version};
 use ctl_store::StanzaKey;
 use std::alloc::{AllocError, Global};
@@ -131,10 +131,9 @@ pub fn say_namers(cache: &Cache, name: &[u8], said: &mut Said)
 pub fn say_counters(cache: &Cache, said: &mut Said)
     requires { cache.now.stale ≡ false }
 {
-    for (packed, number) in cache.counters() {
-        let key = packed.key();
+    for (key, number) in cache.counters().iter() {
         say_clause(b" ", key.stanza, key.field, key.group, said);
-        said.number(b": ", number.get());
+        said.number(b": ", number);
         said.add(b";");
     }
 }
@@ -153,7 +152,7 @@ pub fn say_unmet(cache: &Cache, said: &mut Said)
 pub fn say_satisfiers(cache: &Cache, clause: ClauseKey, said: &mut Said)
     requires { cache.now.stale ≡ false }
 {
-    match cache.counters().get(&PackedClause::new(clause)) {
+    match cache.counters().get(clause) {
         Some(_) => said.number(b"", cache.satisfiers(clause)),
         None => said.add(b"no clause"),
     }

@@ -8,7 +8,6 @@ use Rattle.ctl_policy.specs.Chosen.{AreChosen}
 use Rattle.ctl_index.specs.HeldCache.{standing}
 use Rattle.ctl_index.specs.Inside.TablesByName.{chosen_under}
 use Rattle.ctl_index.specs.Inside.TablesChosen.{HasMade}
-use Rattle.ctl_index.specs.Inside.TablesFollowed.{IsFollowed}
 use Rattle.ctl_index.specs.Inside.TablesIndexed.{IsIndexed}
 use Rattle.ctl_index.specs.Inside.TablesTouched.{is_touched}
 use Rattle.ctl_index.specs.Work.{more_by}

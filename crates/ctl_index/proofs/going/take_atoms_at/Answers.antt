@@ -1,17 +1,15 @@
-use Rattle.std.proofs.Common.{◌&&◌, None, cond, is_some, ap, ◌∙◌}
-use Rattle.std.specs.List.{list_any}
-use Rattle.std.specs.Option.{option_and_then}
+use Rattle.std.proofs.Common.{◌&&◌, true, false, cond, None, is_some, ap, refl, ◌∙◌, ◌≡◌, Bool}
 use Rattle.ctl_store.specs.Keys.{key_is}
-use Rattle.ctl_index.specs.Clauses.{clause_of}
 use Rattle.ctl_index.specs.Inside.TablesHeld.{number_in}
-use Rattle.ctl_index.specs.Inside.TablesLeft.{is_of_field}
-use Rattle.ctl_index.proofs.LeavingLemmas.{of_fields_is}
 use Rattle.ctl_index.proofs.going.take_atoms_at.Goals as goal
+
+and_true : (b : Bool) → b ≡ b && true
+and_true true = refl
+and_true false = refl
 
 pub returns-in-Some-clause-counts : goal.returns-in-Some-clause-counts
 returns-in-Some-clause-counts c = λ k.
     let key = c.args.key in
-    let x = c.in-Some.stanza.now in
     let old = number_in c.args.tables.now k in
-    c.take_fields.ensures.counts k ∙ ap (λ fields. cond (list_any (is_of_field key x k) fields) None old) c.eight.ensures ∙ ap (λ b. cond b None old) (of_fields_is key x k)
-    ∙ ap (λ o. cond (key_is k.stanza key && is_some (option_and_then (clause_of k) o)) None old) c.in-Some.ensures
+    c.remove.ensures k ∙ (λ i. cond (key_is k.stanza key) None (c.take_fields.ensures.counts i k)) ∙ ap (λ b. cond b None old) (and_true (key_is k.stanza key))
+    ∙ ap (λ o. cond (key_is k.stanza key && is_some o) None old) c.in-Some.ensures

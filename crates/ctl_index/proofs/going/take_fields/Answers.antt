@@ -1,7 +1,7 @@
-use Rattle.std.proofs.Common.{None, refl, arith, rules}
+use Rattle.std.proofs.Common.{arith, rules}
 use Rattle.std.proofs.lemmas.Grind.{common_steps}
-use Rattle.ctl_index.specs.Inside.TablesHeld.{namers_in, number_in}
-use Rattle.ctl_index.specs.Inside.TablesLeft.{has_namer_in, is_of_field}
+use Rattle.ctl_index.specs.Inside.TablesHeld.{namers_in}
+use Rattle.ctl_index.specs.Inside.TablesLeft.{has_namer_in}
 use Rattle.ctl_index.specs.Inside.TablesOrder.{namer_stanza, others}
 use Rattle.ctl_index.proofs.LeavingLemmas.{filter_twice, twice_more}
 use Rattle.ctl_index.proofs.going.take_fields.Goals as goal
@@ -16,6 +16,6 @@ loop-field-preserved c =
           twice_more (others namer_stanza c.args.going.now.span) old (filter_twice _ old) (has_namer_in q x) fields c.loop-field.field-index _ (omega arith) (c.take_field.ensures.namers q) (c.loop-field.invariant.namers q);
       offers = search rules;
       rows = search rules;
-      counts = λ k. twice_more (λ _. None) (number_in c.args.tables.now k) refl (is_of_field c.args.key x k) fields c.loop-field.field-index _ (omega arith) (c.take_field.ensures.counts k) (c.loop-field.invariant.counts k);
+      counts = search rules;
       steps = grind (arith, common_steps);
     }

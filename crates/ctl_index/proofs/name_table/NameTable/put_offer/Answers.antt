@@ -1,5 +1,4 @@
 use Rattle.std.proofs.Common.{[], ◌≡◌, ◌+◌, ℕ, List, length, nat_eq, ◌&&◌, not, cond, option_map, ap, sym, subst, ◌∙◌}
-use Rattle.std.specs.BTreeMap.{get}
 use Rattle.std.specs.List.{sum_by}
 use Rattle.std.specs.Str.{bytes_eq}
 use Rattle.ctl_index.specs.Inside.TablesByName.{at_name}
@@ -7,7 +6,7 @@ use Rattle.ctl_index.specs.declared.keys.NamingAtom.{NamingAtom}
 use Rattle.ctl_index.specs.declared.keys.ClauseKey.{ClauseKey}
 use Rattle.ctl_index.specs.declared.keys.OfferKey.{OfferKey}
 use Rattle.ctl_index.specs.declared.named.Named.{Named}
-use Rattle.ctl_index.specs.Clauses.{clause_cmp}
+use Rattle.ctl_index.specs.Clauses.{number_among}
 use Rattle.std.specs.Option.{option_map_or}
 use Rattle.ctl_index.specs.Inside.TablesByName.{own_under, named_own, offers_under, namers_under, named_offers, named_namers, no_rows, is_bare}
 use Rattle.ctl_index.specs.Inside.TablesCounters.{counted_up}
@@ -59,7 +58,7 @@ pub returns-in_ok-put-in-Some-clause-counts : goal.returns-in_ok-put-in-Some-cla
 returns-in_ok-put-in-Some-clause-counts c =
     let m = c.args.self.now.map in
     let same : c.as_slice.result.now ≡ namers_under m c.args.coming.offer.now.name = c.as_slice.ensures ∙ part-found named_namers [] c.name.result.now m _ c.in-Some.ensures.value ∙ ap (namers_under m) c.name.ensures in
-    subst (λ (xs : List NamingAtom). (k : ClauseKey) → get clause_cmp c.raise_clauses.new.counters.numbers k ≡ option_map (counted_up (sum_by (hit c.args.pending.now c.args.coming.offer.now k) xs)) (get clause_cmp c.args.counters.now.numbers k)) same c.raise_clauses.ensures.counts
+    subst (λ (xs : List NamingAtom). (k : ClauseKey) → number_among c.raise_clauses.new.counters.numbers k ≡ option_map (counted_up (sum_by (hit c.args.pending.now c.args.coming.offer.now k) xs)) (number_among c.args.counters.now.numbers k)) same c.raise_clauses.ensures.counts
 
 pub returns-in_ok-put-in-Some-clause-rows : goal.returns-in_ok-put-in-Some-clause-rows
 returns-in_ok-put-in-Some-clause-rows c =

@@ -1,11 +1,10 @@
 use Rattle.std.proofs.Common.{◌≡◌, ℕ, [], List, Some, None, cond, ap, sym, subst, ◌∙◌, arith}
-use Rattle.std.specs.BTreeMap.{get}
 use Rattle.std.specs.List.{sum_by}
 use Rattle.std.specs.Str.{bytes_eq}
 use Rattle.ctl_index.specs.declared.keys.NamingAtom.{NamingAtom}
 use Rattle.std.proofs.lemmas.Grind.{common_steps}
 use Rattle.ctl_index.specs.declared.named.Named.{Named}
-use Rattle.ctl_index.specs.Clauses.{clause_cmp}
+use Rattle.ctl_index.specs.Clauses.{number_among}
 use Rattle.ctl_index.specs.Inside.TablesByName.{IsSetAt, own_under, named_own, offers_under, namers_under, named_offers, named_namers, no_rows}
 use Rattle.ctl_index.specs.Inside.TablesCounters.{less_by}
 use Rattle.ctl_index.specs.Inside.TablesPending.{hit}
@@ -60,7 +59,7 @@ returns-then-not-is_used c =
       rows = λ q. replaced named_own no_rows bs m n c.remove.new.self w (λ l. l) writes removes (sym (part-found named_own no_rows bs m _ found) ∙ left.own) q ∙ same_either (bytes_eq bs q) (own_under m q);
       counts = λ k.
           let same : c.as_slice.result.now ≡ namers_under m c.args.offer.now.name = c.as_slice.ensures ∙ part-found named_namers [] bs m _ found ∙ ap (namers_under m) c.name.ensures in
-          c.in_ok-lower_clauses.ensures.counts k ∙ ap (λ (xs : List NamingAtom). less_by (sum_by (hit c.args.going.now.pending c.args.offer.now k) xs) (get clause_cmp c.args.counters.now.numbers k)) same;
+          c.in_ok-lower_clauses.ensures.counts k ∙ ap (λ (xs : List NamingAtom). less_by (sum_by (hit c.args.going.now.pending c.args.offer.now k) xs) (number_among c.args.counters.now.numbers k)) same;
       steps = grind (arith, common_steps);
       most = grind (arith, common_steps);
       least = grind (arith, common_steps);
@@ -84,7 +83,7 @@ returns-else-not-is_used c =
       rows = unchanged named_own no_rows bs m n w writes (part-found named_own no_rows bs m _ found);
       counts = λ k.
           let same : c.as_slice.result.now ≡ namers_under m c.args.offer.now.name = c.as_slice.ensures ∙ part-found named_namers [] bs m _ found ∙ ap (namers_under m) c.name.ensures in
-          c.in_ok-lower_clauses.ensures.counts k ∙ ap (λ (xs : List NamingAtom). less_by (sum_by (hit c.args.going.now.pending c.args.offer.now k) xs) (get clause_cmp c.args.counters.now.numbers k)) same;
+          c.in_ok-lower_clauses.ensures.counts k ∙ ap (λ (xs : List NamingAtom). less_by (sum_by (hit c.args.going.now.pending c.args.offer.now k) xs) (number_among c.args.counters.now.numbers k)) same;
       steps = grind (arith, common_steps);
       most = grind (arith, common_steps);
       least = grind (arith, common_steps);
