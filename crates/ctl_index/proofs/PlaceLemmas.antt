@@ -11,7 +11,7 @@ use Rattle.std.specs.declared.cmp.Ordering.TheVariants.{Less, Equal, Greater}
 use Rattle.std.proofs.lemmas.List.Sorted.{searchable_from_sorted}
 use Rattle.std.proofs.lemmas.Map.Entries.{lookup_at_gap, lookup_from_place}
 use Rattle.std.proofs.lemmas.Map.Keys.{sorted_from_all_adjacent, Less-from_sorted, sorted_head, sorted_tail, IsDistinct-from_sorted}
-use Rattle.std.proofs.lemmas.Option.{slice_get_within, get_or_from_slice_get, slice_get-get_or}
+use Rattle.std.proofs.lemmas.Option.{same_Some, slice_get_within, get_or_from_slice_get, slice_get-get_or}
 use Rattle.ctl_relation.specs.FieldKind.{field_place}
 use Rattle.ctl_index.specs.declared.stanza_numbers.ClausePlace.{ClausePlace}
 use Rattle.ctl_index.specs.Inside.ClauseNumbers.{Placed, place_cmp, number_at_place, AreInPlace, come_in}
@@ -122,11 +122,7 @@ none_rises = tt
 module _ (p : ClausePlace) (w : ℕ) where
   keys_kept : (cs : Placed) (at : ℕ) → option_map (λ (c : ClausePlace × ℕ). c.0) (slice_get cs at) ≡ Some p → keys_of (slice_set cs at (p, w)) ≡ keys_of cs
   keys_kept [] at h = refl
-  keys_kept (c ∷ cs) zero h = ap (λ o. option_or_place o c.0 ∷ keys_of cs) (sym h)
-    where
-      option_or_place : Option ClausePlace → ClausePlace → ClausePlace
-      option_or_place None d = d
-      option_or_place (Some x) d = x
+  keys_kept (c ∷ cs) zero h = ap (λ x. x ∷ keys_of cs) (sym (same_Some c.0 p h))
   keys_kept (c ∷ cs) (suc at) h = ap (λ ks. c.0 ∷ ks) (keys_kept cs at h)
 
   pub rises_written : (cs : Placed) (at : ℕ) → option_map (λ (c : ClausePlace × ℕ). c.0) (slice_get cs at) ≡ Some p → AreInPlace cs → AreInPlace (slice_set cs at (p, w))
@@ -134,14 +130,7 @@ module _ (p : ClausePlace) (w : ℕ) where
 
   all_there : (P : ClausePlace → Type 0) (cs : Placed) (at : ℕ) → option_map (λ (c : ClausePlace × ℕ). c.0) (slice_get cs at) ≡ Some p → AllByRecursion P (keys_of cs) → P p
   all_there P [] at h all = absurd cc
-  all_there P (c ∷ cs) zero h all = subst P (the_some h) all.0
-    where
-      or_else : ClausePlace → Option ClausePlace → ClausePlace
-      or_else d None = d
-      or_else d (Some x) = x
-
-      the_some : Some c.0 ≡ Some p → c.0 ≡ p
-      the_some e = ap (or_else p) e
+  all_there P (c ∷ cs) zero h all = subst P (same_Some c.0 p h) all.0
   all_there P (c ∷ cs) (suc at) h all = all_there P cs at h all.1
 
   apart : (o : Ordering) → o ≡ Less → is_eq o ≡ true → ⊥
@@ -151,12 +140,8 @@ module _ (p : ClausePlace) (w : ℕ) where
       → (q : ClausePlace) → number_at_place q (slice_set cs at (p, w)) ≡ cond (is_eq (place_cmp p q)) (Some w) (number_at_place q cs)
   number_written [] at h rising q = absurd cc
   number_written (c ∷ cs) zero h rising q =
-      by (is_eq (place_cmp q p)) (is_eq (place_cmp q c.0)) (ap (λ o. is_eq (place_cmp q (or_else p o))) (sym h)) ∙ ap (λ b. cond b (Some w) (number_at_place q (c ∷ cs))) (tie_turned q p)
+      by (is_eq (place_cmp q p)) (is_eq (place_cmp q c.0)) (ap (λ x. is_eq (place_cmp q x)) (sym (same_Some c.0 p h))) ∙ ap (λ b. cond b (Some w) (number_at_place q (c ∷ cs))) (tie_turned q p)
     where
-      or_else : ClausePlace → Option ClausePlace → ClausePlace
-      or_else d None = d
-      or_else d (Some x) = x
-
       by : (t u : Bool) → t ≡ u → cond t (Some w) (number_at_place q cs) ≡ cond t (Some w) (cond u (Some c.1) (number_at_place q cs))
       by true u e = refl
       by false true e = absurd (true≢false (sym e))
@@ -184,14 +169,7 @@ pub number_there : (cs : Placed) (at : ℕ) (p : ClausePlace) (d : ClausePlace �
 number_there cs at p d h rising =
     let within = number_in_place cs at p h in
     lookup_from_place (eq_by_cmp_equiv places_total) cs at p (get_or cs at d).1 (IsDistinct-from_sorted place_cmp (keys_of cs) rising)
-    (slice_get-get_or cs at d within ∙ ap (λ q. Some (q, (get_or cs at d).1)) (the_some (sym (ap (option_map (λ (c : ClausePlace × ℕ). c.0)) (slice_get-get_or cs at d within)) ∙ h)))
-  where
-    or_else : ClausePlace → Option ClausePlace → ClausePlace
-    or_else d None = d
-    or_else d (Some x) = x
-
-    the_some : {a b : ClausePlace} → Some a ≡ Some b → a ≡ b
-    the_some {a} e = ap (or_else a) e
+    (slice_get-get_or cs at d within ∙ ap (λ q. Some (q, (get_or cs at d).1)) (same_Some (get_or cs at d).0 p (sym (ap (option_map (λ (c : ClausePlace × ℕ). c.0)) (slice_get-get_or cs at d within)) ∙ h)))
 
 -- a number is changed where it is there, and no other
 module _ (f : ℕ → ℕ → ℕ) (stay : (x : ℕ) → x ≡ f x 0) where
