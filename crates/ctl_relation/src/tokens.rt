@@ -32,8 +32,8 @@ fn fours_of(class: ByteClass, text: &[u8]) -> usize
     i
 }
 
-// How many bytes at the front are of the class.
-fn run_len(class: ByteClass, text: &[u8]) -> usize
+/// How many bytes at the front are of the class.
+pub(crate) fn run_len(class: ByteClass, text: &[u8]) -> usize
     ensures len { result ≡ prefix_len (class_has class) text.now }
     ensures within { result ≤ length text.now }
 {
