@@ -7,3 +7,4 @@ pub mod Front
 pub mod HeldPlaces
 pub mod HeldOffers
 pub mod HeldMarks
+pub mod PrintedAtoms

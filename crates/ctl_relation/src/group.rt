@@ -4,10 +4,11 @@ ghost use Rattle.std.specs.Prelude.{◌≡◌, ◌≤◌, ◌^◌, ◌++◌, ◌
 ghost use Rattle.std.specs.List.{flat_map};
 ghost use Rattle.ctl_relation.specs.Inside.HeldPlaces.{HasAtom, HaveAtoms, atom_held, atoms_held};
 ghost use Rattle.ctl_relation.specs.Named.{group_names};
-ghost use Rattle.ctl_relation.specs.Printed.{alternative_text, group_text};
+ghost use Rattle.ctl_relation.specs.Printed.{alternative_text, atom_text, group_text};
 
 use crate::atom::Atom;
 use crate::field_kind::FieldKind;
+use crate::printed::printed_atom;
 use crate::reading::{atom_at_place, is_named_at};
 use std::alloc::AllocError;
 use std::marker::Model;
@@ -135,10 +136,27 @@ impl<'a> Group<'a> {
         ensures ok { OnOk result (out.new.items ≡ out.old.items ++ group_text self.now) }
         ensures err { OnErr result (take (vec_len out.old) out.new.items ≡ out.old.items) }
     {
-        let first = atom_at_place(self.kind, self.body, self.first);
-        first.append_to(out)?;
+        append_atom(self.kind, self.body, self.first, out)?;
         append_others(self.kind, self.body, self.further, out)?;
         Ok(())
+    }
+}
+
+// Appends the atom at a place of a body. Where memory runs out, what stood in `out` stays at its front.
+fn append_atom(
+    kind: FieldKind,
+    body: &[u8],
+    place: u32,
+    out: &mut Vec<u8>,
+) -> Result<(), AllocError>
+    requires { HasAtom kind body.now place }
+    ensures ok { OnOk result (out.new.items ≡ out.old.items ++ atom_text (atom_held kind body.now place)) }
+    ensures err { OnErr result (take (vec_len out.old) out.new.items ≡ out.old.items) }
+{
+    let (_, text) = body.split_at(place as usize);
+    match printed_atom(text) {
+        Some(printed) => out.extend_from_slice(printed),
+        None => atom_at_place(kind, body, place).append_to(out),
     }
 }
 
@@ -155,9 +173,8 @@ fn append_others(
     ensures err { OnErr result (take (vec_len out.old) out.new.items ≡ out.old.items) }
 {
     for place in places {
-        let other = atom_at_place(kind, body, *place);
         out.extend_from_slice(b" | ")?;
-        other.append_to(out)?;
+        append_atom(kind, body, *place, out)?;
     }
     Ok(())
 }

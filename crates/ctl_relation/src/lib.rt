@@ -15,6 +15,7 @@ mod offers;
 mod operator;
 mod part;
 mod places;
+mod printed;
 mod reading;
 mod relation_fault;
 mod relation_laws;

@@ -19,7 +19,7 @@ returns-clause-ok c =
     let first : List ℕ = atom_text (atom_held g.kind g.body.now g.first) in
     let others : List ℕ = flat_map (λ (place : ℕ). alternative_text (atom_held g.kind g.body.now place)) g.further.now in
     c.in_ok-append_others.ensures.ok
-    ∙ ap (λ (t : List ℕ). t ++ others) (c.in_ok-append_to.ensures.ok ∙ ap (λ (a : AtomParts). old ++ atom_text a) c.atom_at_place-first.ensures)
+    ∙ ap (λ (t : List ℕ). t ++ others) c.in_ok-append_atom.ensures.ok
     ∙ append_assoc old first others
     ∙ ap (λ (t : List ℕ). old ++ (first ++ t)) (others-text g.kind g.body.now g.further.now)
     ∙ ap (λ (a : List AtomParts). old ++ group_text a) c.self.view_is
