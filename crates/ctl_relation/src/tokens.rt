@@ -1,6 +1,6 @@
 //! The tokens of a relation field: names, qualifiers, operators, versions, and the whitespace between them.
 
-ghost use Rattle.std.specs.Prelude.{◌≡◌, ◌≤◌, ◌<◌, ℕ, length, slice_index, true, None, Ok, is_ok, IfOk, IfSome};
+ghost use Rattle.std.specs.Prelude.{◌≡◌, ◌≤◌, ◌<◌, length, true, None, Ok, is_ok, IfOk, IfSome};
 ghost use Rattle.std.specs.List.{prefix_len};
 ghost use Rattle.std.specs.Option.{option_map};
 ghost use Rattle.ctl_relation.specs.Inside.ByteClass.{class_has};
@@ -16,30 +16,13 @@ use crate::field_kind::FieldKind;
 use crate::operator::Operator;
 use crate::relation_fault::RelationFault;
 
-// Up to where bytes at the front are of the class, for up to three bytes: they are looked at four by four.
-fn fours_of(class: ByteClass, text: &[u8]) -> usize
-    ensures within { result ≤ length text.now }
-    ensures passed { (k : ℕ) → k < result → class_has class (slice_index text.now k) ≡ true }
-{
-    let mut i = 0;
-    while text.len() - i >= 4 {
-        let front = class.has(text[i]) & class.has(text[i + 1]);
-        if !(front & class.has(text[i + 2]) & class.has(text[i + 3])) {
-            return i;
-        }
-        i += 4;
-    }
-    i
-}
-
 /// How many bytes at the front are of the class.
 pub(crate) fn run_len(class: ByteClass, text: &[u8]) -> usize
     ensures len { result ≡ prefix_len (class_has class) text.now }
     ensures within { result ≤ length text.now }
 {
-    let start = fours_of(class, text);
-    for i in start..text.len() {
-        if !class.has(text[i]) {
+    for (i, byte) in text.iter().enumerate() {
+        if !class.has(*byte) {
             return i;
         }
     }
