@@ -129,7 +129,7 @@ impl ClauseNumbers {
         Ok(())
     }
 
-    /// Each clause with its number, in order.
+    /// Each clause with its number.
     pub fn iter(&self) -> NumberedClauses<'_>
         ensures { result ≡ self.now }
     {
@@ -141,7 +141,7 @@ impl ClauseNumbers {
     }
 }
 
-/// Clauses with their numbers, by [`ClauseNumbers::iter`], in order.
+/// Clauses with their numbers, by [`ClauseNumbers::iter`].
 #[derive(Drop)]
 pub struct NumberedClauses<'a> {
     stanzas: btree_map::Iter<'a, StanzaKey, StanzaNumbers>,

@@ -12,7 +12,8 @@ use Rattle.ctl_index.specs.Names.{known_names}
 use Rattle.ctl_policy.specs.Rows.{Row, rows_named, newest_first, keys_of_row, is_any_row}
 use Rattle.ctl_policy.specs.Priority.{World, world_of}
 use Rattle.ctl_query.specs.Packages.{stanzas_of, names_known, has_row, of_rows, told_of_row, rows_of, packages_of}
-use Rattle.ctl_query.specs.Leads.{keyed_lead, leads_named, leads_of}
+use Rattle.ctl_index.specs.LeadKeys.{lead_key}
+use Rattle.ctl_query.specs.Leads.{keyed_lead, keyed_stanza, leads_named, leads_of}
 use Rattle.ctl_query.proofs.AtomOrderLemmas.{all_append}
 use Rattle.ctl_query.proofs.InterestLemmas.{skip}
 
@@ -96,6 +97,19 @@ module _ (world : World) where
   pub leads_of_known : flat_map (flat_map (keyed_lead world)) (map (λ (name : List ℕ). map keys_of_row (newest_first (rows_named name world.lists))) (known_names (stanzas_of world))) ≡ leads_of world
   unfolding leads_of packages_of
   leads_of_known = leads_by_name (names_known world) ∙ skip (leads_named world) (has_row world) no_leads (names_known world)
+
+  -- ---- by their keys
+
+  row_by_key : (row : List StanzaKey) → flat_map (keyed_stanza world) (lead_key row) ≡ keyed_lead world row
+  row_by_key [] = refl
+  row_by_key (key ∷ keys) = append-nil (keyed_stanza world key)
+
+  rows_by_keys : (rows : List (List StanzaKey)) → flat_map (keyed_stanza world) (flat_map lead_key rows) ≡ flat_map (keyed_lead world) rows
+  rows_by_keys rows = twice (keyed_stanza world) lead_key rows ∙ alike _ _ row_by_key rows
+
+  -- the leads of rows are the stanzas under the keys of these leads
+  pub leads_by_keys : (rows : List (List (List StanzaKey))) → flat_map (keyed_stanza world) (flat_map (flat_map lead_key) rows) ≡ flat_map (flat_map (keyed_lead world)) rows
+  leads_by_keys rows = twice (keyed_stanza world) (flat_map lead_key) rows ∙ alike _ _ rows_by_keys rows
 
 -- leads of packages stand in the store
 pub leads_held : (store : Held) (names : List (List ℕ)) (leads : List Entry) → leads ≡ flat_map (leads_named (world_of store)) names → AreAt leads (keyed_of store).lists

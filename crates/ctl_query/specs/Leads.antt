@@ -23,10 +23,14 @@ use Rattle.ctl_query.specs.ShowPackage.{line_if_naming}
 abbrev pub lent_lead : StanzaKey × Bor Content → Entry
 lent_lead lead = (lead.0, lead.1.now)
 
+-- the stanza of a key under it, if there is one
+abbrev pub keyed_stanza : World → StanzaKey → List Entry
+keyed_stanza world key = option_map_or (λ (x : Content). (key, x) ∷ []) (stanza_at key world.lists) []
+
 -- the lead of a row under its key
 abbrev pub keyed_lead : World → List StanzaKey → List Entry
 keyed_lead world [] = []
-keyed_lead world (key ∷ keys) = option_map_or (λ (x : Content). (key, x) ∷ []) (stanza_at key world.lists) []
+keyed_lead world (key ∷ keys) = keyed_stanza world key
 
 abbrev pub leads_named : World → List ℕ → List Entry
 leads_named world name = flat_map (keyed_lead world) (rows_of world name)

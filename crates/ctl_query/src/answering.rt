@@ -11,6 +11,7 @@ ghost use Rattle.ctl_query.specs.QueryRead.{query_text};
 use crate::asking::Asking;
 use crate::depends::Depending;
 use crate::laws::answers_are_as_if_built_anew;
+use crate::lead_table::pays;
 use crate::package_names::append_package_names;
 use crate::policy::{append_policy, append_policy_of_all};
 use crate::query::Query;
@@ -21,6 +22,7 @@ use crate::unmet::append_unmet;
 use ctl_filter::append_filter;
 use ctl_index::Cache;
 use ctl_relation::{Bytes, Steps};
+use ctl_store::Store;
 use std::alloc::AllocError;
 
 /// Appends the answer to `policy`, with or without names.
@@ -138,4 +140,38 @@ pub fn answer(
         answer_behind(&asking, query, out, steps)?;
         Ok(())
     }
+}
+
+// Whether an answer looks at the leads of all rows.
+fn wants_leads(store: &Store, query: &Query) -> bool {
+    match query {
+        Query::ShowPackage(names) => pays(store, names.len()),
+        Query::ReverseDepends(_, names) => pays(store, names.len()),
+        _ => false,
+    }
+}
+
+/// Appends the answer as [`answer`] does, and has the cache keep what the next query of many names needs, up to the next edit.
+///
+/// # Errors
+///
+/// Out of memory. Then the text is as before.
+pub fn answer_and_keep(
+    cache: &mut Cache,
+    query: &Query,
+    out: &mut Vec<u8>,
+    steps: &mut Steps,
+) -> Result<(), AllocError>
+    requires { cache.old.stale ≡ false }
+    ensures ok { OnOk result (out.new.items ≡ out.old.items
+        ++ answer_anew (holdings_of (state_of cache.old.store)) (query_text query.now)) }
+    ensures err { OnErr result (out.new.items ≡ out.old.items) }
+    ensures steps { steps.new ≤ steps.old + answer_pairs (world_of cache.old.store) (query_text query.now) }
+    ensures kept { steps.old ≤ steps.new }
+    ensures cache { cache.new ≡ cache.old }
+{
+    if wants_leads(cache.store(), query) {
+        cache.keep_leads()?;
+    }
+    answer(cache, query, out, steps)
 }

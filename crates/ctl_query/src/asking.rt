@@ -1,6 +1,6 @@
 //! What an answer is asked of: a cache that isn't stale, and what stands in it under names.
 
-ghost use Rattle.std.specs.Prelude.{◌≡◌, ◌&&◌, ℕ, List, IfOk, IsSome, Some, true, false, map};
+ghost use Rattle.std.specs.Prelude.{◌≡◌, ◌&&◌, ℕ, List, IfOk, IfSome, IsSome, Some, true, false, map};
 ghost use Rattle.std.specs.List.{All, AllByRecursion};
 ghost use Rattle.std.specs.Cmp.Lexicographic.{slice_cmp};
 ghost use Rattle.std.specs.List.Sorted.{IsPermutation, IsStrictlySortedBy};
@@ -11,6 +11,7 @@ ghost use Rattle.ctl_store.specs.Followed.{under};
 ghost use Rattle.ctl_store.specs.Keys.{AreHeld, AreRising};
 ghost use Rattle.ctl_index.specs.Clauses.{clause_at, number_at, unmet_clauses};
 ghost use Rattle.ctl_index.specs.HeldCache.{standing};
+ghost use Rattle.ctl_index.specs.LeadKeys.{lead_keys};
 ghost use Rattle.ctl_index.specs.Names.{is_package, namers_named, kept_namers_named};
 ghost use Rattle.ctl_index.specs.Offers.{offers_named};
 ghost use Rattle.ctl_policy.specs.Candidate.{candidate_of};
@@ -191,6 +192,13 @@ impl<'a> Asking<'a> {
             (names_known (world_of self.now)) }
     {
         self.cache.all_rows()
+    }
+
+    /// The keys of the leads of all rows, name by name, and of each the newest first, where the cache keeps them.
+    pub(crate) fn kept_leads(&self) -> Option<&'a [StanzaKey]>
+        ensures { IfSome result (λ leads. leads.now ≡ lead_keys self.now) }
+    {
+        self.cache.kept_leads()
     }
 
     /// The clauses that no offer meets, in order.

@@ -1,11 +1,11 @@
 //! The leads of rows, in the order in which answers on all packages tell of them. An answer that is gathered from the keys
 //! of stanzas, in whatever order they come, finds by the table which of them are leads and where each stands in that order.
 
-ghost use Rattle.std.specs.Prelude.{◌≡◌, ℕ, true, Some, IfOk, IfSome, flat_map, option_map, option_copied, slice_get};
+ghost use Rattle.std.specs.Prelude.{◌≡◌, ◌++◌, ℕ, true, Some, OnOk, IfOk, IfSome, flat_map, option_map, option_copied, slice_get};
 ghost use Rattle.std.specs.Bool.{OnTrue, OnFalse};
 ghost use Rattle.ctl_store.specs.Entries.{Entry};
 ghost use Rattle.ctl_policy.specs.Priority.{world_of};
-ghost use Rattle.ctl_query.specs.Leads.{key_at, leads_named, leads_of};
+ghost use Rattle.ctl_query.specs.Leads.{key_at, keyed_stanza, leads_named, leads_of};
 ghost use Rattle.ctl_query.specs.LeadTable.{lent_leads, likely_place, place_under, numbered_from, slot_of, AreEnough, AreInKeyOrder, AreLikely, ArePlaces};
 ghost use Rattle.ctl_query.specs.NameSet.{lent_names};
 
@@ -13,7 +13,7 @@ use crate::asking::Asking;
 use crate::interest::packages_naming;
 use crate::leads::Leads;
 use ctl_stanza::Stanza;
-use ctl_store::{StanzaKey, compare_keys};
+use ctl_store::{StanzaKey, Store, compare_keys};
 use std::alloc::{AllocError, Global};
 use std::marker::Model;
 
@@ -43,8 +43,39 @@ impl<'a> Model for LeadTable<'a> {
         × IfSome table.places (λ places. ArePlaces (lent_leads table.leads.items) places.items) };
 }
 
-// The leads of all rows, each under its key. A name without a row has none.
-fn leads_of<'a>(asking: &Asking<'a>) -> Result<Vec<(StanzaKey, &'a Stanza)>, AllocError>
+// Adds the stanza of a key under it, if there is one.
+fn push_under<'a>(
+    store: &'a Store,
+    key: StanzaKey,
+    leads: &mut Vec<(StanzaKey, &'a Stanza)>,
+) -> Result<(), AllocError>
+    ensures { OnOk result (lent_leads leads.new.items ≡ lent_leads leads.old.items ++ keyed_stanza (world_of store.now) key) }
+{
+    match store.find(key) {
+        Some(stanza) => {
+            leads.push((key, stanza))?;
+            Ok(())
+        }
+        None => Ok(()),
+    }
+}
+
+// The stanzas of these keys, each under its key.
+fn leads_under<'a>(
+    asking: &Asking<'a>,
+    keys: &[StanzaKey],
+) -> Result<Vec<(StanzaKey, &'a Stanza)>, AllocError>
+    ensures { IfOk result (λ leads. lent_leads leads.items ≡ flat_map (keyed_stanza (world_of asking.now)) keys.now) }
+{
+    let mut leads = Vec::with_capacity(asking.alloc(), keys.len())?;
+    for key in keys {
+        push_under(asking.store(), *key, &mut leads)?;
+    }
+    Ok(leads)
+}
+
+// The leads of all rows, each under its key, by a walk over all names. A name without a row has none.
+fn gathered_leads<'a>(asking: &Asking<'a>) -> Result<Vec<(StanzaKey, &'a Stanza)>, AllocError>
     ensures { IfOk result (λ leads. lent_leads leads.items ≡ leads_of (world_of asking.now)) }
 {
     let mut leads = Vec::new(asking.alloc());
@@ -54,6 +85,16 @@ fn leads_of<'a>(asking: &Asking<'a>) -> Result<Vec<(StanzaKey, &'a Stanza)>, All
         }
     }
     Ok(leads)
+}
+
+// The leads of all rows, each under its key: by the keys that the cache keeps of them, where it does.
+fn leads_of<'a>(asking: &Asking<'a>) -> Result<Vec<(StanzaKey, &'a Stanza)>, AllocError>
+    ensures { IfOk result (λ leads. lent_leads leads.items ≡ leads_of (world_of asking.now)) }
+{
+    match asking.kept_leads() {
+        Some(keys) => leads_under(asking, keys),
+        None => gathered_leads(asking),
+    }
 }
 
 // The leads of the rows of these packages.
@@ -173,15 +214,20 @@ fn place_under(places: &[(StanzaKey, usize)], key: StanzaKey) -> Option<usize>
 // How many stanzas there are for each name of a query from which on a table of all leads pays.
 const STANZAS_FOR_A_NAME: usize = 64;
 
+/// Whether a table of all leads pays, where so many names are asked for. For one name alone it never does.
+pub(crate) fn pays(store: &Store, names: usize) -> bool {
+    names >= 2 && names > store.counts().stanzas as usize / STANZAS_FOR_A_NAME
+}
+
 impl<'a> LeadTable<'a> {
-    /// The table of all leads of a cache, where so many names are asked for that it pays. For one name alone it never does.
+    /// The table of all leads of a cache, where so many names are asked for that it pays.
     pub(crate) fn for_names(
         asking: &Asking<'a>,
         names: usize,
     ) -> Result<Option<LeadTable<'a>>, AllocError>
         ensures { IfOk result (λ table. IfSome table (λ t. t ≡ leads_of (world_of asking.now))) }
     {
-        if names < 2 || names <= asking.store().counts().stanzas as usize / STANZAS_FOR_A_NAME {
+        if !pays(asking.store(), names) {
             return Ok(None);
         }
         let table = LeadTable::new(asking.alloc(), leads_of(asking)?)?;

@@ -30,7 +30,7 @@ mod source_lines;
 mod text;
 mod unmet;
 
-pub use answering::answer;
+pub use answering::{answer, answer_and_keep};
 pub use laws::{
     answers_are_as_if_built_anew, lists_anew_are_added, unmet_clauses_are_met_by_no_offer,
 };

@@ -11,7 +11,7 @@ use crate::reply::Reply;
 use crate::request::{Request, let_go};
 use crate::script::{Body, CommandRead};
 use ctl_index::Cache;
-use ctl_query::answer;
+use ctl_query::answer_and_keep;
 use ctl_relation::Steps;
 use ctl_store::Refusal;
 use std::alloc::Global;
@@ -45,7 +45,7 @@ fn carry_out(
         Request::Put(list, kind) => reply_of_edit(put(at, cache, list, kind, &text)),
         Request::Prefs => reply_of_edit(set_prefs(at, cache, &text)),
         Request::Change(change) => reply_of_edit(edit(cache, change, at.number)),
-        Request::Ask(query) => match answer(cache, &query, out, &mut Steps::new()) {
+        Request::Ask(query) => match answer_and_keep(cache, &query, out, &mut Steps::new()) {
             Ok(()) => Reply::Answered,
             Err(_) => Reply::Refused(refused(at.number, Refusal::Memory)),
         },

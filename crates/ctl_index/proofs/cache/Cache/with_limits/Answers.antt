@@ -15,4 +15,5 @@ invariant_of-result c = λ _.
       subst (λ es. IsIndexed es c.new.result) (sym none) c.new.ensures.indexed,
       c.nothing_is_chosen.ensures c.with_limits.result (chosen_in c.new.result) none (λ q. ap (λ (own : ChosenRows). own.chosen) (c.new.ensures.bare q)),
       λ q e. absurd (true≢false (sym (ap is_bare (c.new.ensures.bare q) ∙ none_bare) ∙ e)),
+      tt,
     )
