@@ -60,13 +60,10 @@ pub(crate) fn look_ahead(
 
 // ---- at the texts of leads
 
-// How many bytes the texts of the leads of the next atoms have. Of each its first byte is looked at, so that it is fetched.
-fn bytes_of_texts(table: &AskerTable<'_>, atoms: &[ListedAtom<'_>], at: usize) -> usize {
+// How many bytes the texts of the leads of these atoms have. Of each its first byte is looked at, so that it is fetched.
+fn bytes_of_texts(table: &AskerTable<'_>, atoms: &[ListedAtom<'_>]) -> usize {
     let mut bytes: usize = 0;
-    for place in at..end_of_look(atoms.len(), at) {
-        let Some(atom) = atoms.get(place) else {
-            return bytes;
-        };
+    for atom in atoms {
         let text = table.text(atom.at.place);
         if text.first() == Some(&b' ') {
             bytes = bytes.saturating_add(text.len());
@@ -75,18 +72,10 @@ fn bytes_of_texts(table: &AskerTable<'_>, atoms: &[ListedAtom<'_>], at: usize) -
     bytes
 }
 
-// How many groups there are in the fields of those of the next atoms that are to be read in their stanzas.
-fn groups_to_read(
-    table: &AskerTable<'_>,
-    name: &[u8],
-    atoms: &[ListedAtom<'_>],
-    at: usize,
-) -> usize {
+// How many groups there are in the fields of those of these atoms that are to be read in their stanzas.
+fn groups_to_read(table: &AskerTable<'_>, name: &[u8], atoms: &[ListedAtom<'_>]) -> usize {
     let mut groups: usize = 0;
-    for place in at..end_of_look(atoms.len(), at) {
-        let Some(atom) = atoms.get(place) else {
-            return groups;
-        };
+    for atom in atoms {
         if atom.namer.atom(name).is_some() {
             continue;
         }
@@ -97,19 +86,19 @@ fn groups_to_read(
     groups
 }
 
-/// The same, where lines are written with the texts of leads, and most atoms with a name are kept beside their keys.
-pub(crate) fn look_ahead_at_texts(
+/// Room for what is written of the next atoms, where those before are written; in between none. Lines are written with the texts of
+/// leads, and most atoms with a name are kept beside their keys: what counts is that the texts, and the fields of the others, are gone
+/// to.
+pub(crate) fn room_of_texts(
     table: &AskerTable<'_>,
     name: &[u8],
     atoms: &[ListedAtom<'_>],
     at: usize,
-    out: &mut Vec<u8>,
-) -> Result<(), AllocError>
-    ensures { OnOk result (out.new.items ≡ out.old.items) }
-{
-    let bytes = bytes_of_texts(table, atoms, at);
-    let groups = groups_to_read(table, name, atoms, at);
-    out.reserve(bytes.saturating_add(groups))
+) -> usize {
+    match atoms.get(at..end_of_look(atoms.len(), at)) {
+        Some(next) => bytes_of_texts(table, next).saturating_add(groups_to_read(table, name, next)),
+        None => 0,
+    }
 }
 
 // ---- at names that are asked for

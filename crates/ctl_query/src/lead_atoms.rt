@@ -12,7 +12,7 @@ ghost use Rattle.ctl_query.specs.Inside.ListedAtoms.{places_in, listed_at, IsKep
 ghost use Rattle.ctl_query.specs.LeadTable.{lent_leads};
 ghost use Rattle.ctl_query.specs.ShowPackage.{asker};
 
-use crate::ahead::look_ahead_at_texts;
+use crate::ahead::room_of_texts;
 use crate::askers::{Asker, AskerTable};
 use crate::lead_lines::append_naming_line;
 use crate::lead_table::LeadTable;
@@ -246,7 +246,7 @@ pub(crate) fn append_atoms(
         ++ flat_map (λ (listed : ListedAtom). line_at table.now name.now listed.at) atoms.now) }
 {
     for at in 0..atoms.len() {
-        look_ahead_at_texts(table, name, atoms, at, out)?;
+        out.reserve(room_of_texts(table, name, atoms, at))?;
         append_atom(table, name, &atoms[at], out)?;
     }
     Ok(())

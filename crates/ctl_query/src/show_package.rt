@@ -24,7 +24,7 @@ use crate::ahead::look_ahead_at_names;
 use crate::askers::AskerTable;
 use crate::asking::{AskedName, Asking, look_up};
 use crate::interest::{packages_providing, stanzas_are_found};
-use crate::lead_atoms::{ListedAtom, append_atoms, list_atoms};
+use crate::lead_atoms::{append_atoms, list_atoms};
 use crate::lead_lines::{append_entry_lines, append_providing_lines, append_relation_lines};
 use crate::lead_table::LeadTable;
 use crate::leads::Leads;
@@ -68,11 +68,10 @@ fn append_version(store: &Store, row: &[StanzaKey], out: &mut Vec<u8>) -> Result
 // ---- who names it
 
 /// Appends the atoms that name a name, by a table of leads: each is gone to by its key, and no name is looked for.
-fn append_by_atoms<'a>(
+fn append_by_atoms(
     asking: &Asking<'_>,
     table: &AskerTable<'_>,
-    asked: &AskedName<'a>,
-    atoms: &mut Vec<ListedAtom<'a>>,
+    asked: &AskedName<'_>,
     out: &mut Vec<u8>,
 ) -> Result<(), AllocError>
     requires enough { AreEnough asking.now asked.now.name.now table.now }
@@ -81,18 +80,18 @@ fn append_by_atoms<'a>(
 {
     rows_are_classes();
     stanzas_are_found(asking);
-    list_atoms(table.table(), asked.view.kept_namers(), atoms)?;
-    append_atoms(table, asked.name, atoms, out)?;
+    let mut atoms = Vec::new(asking.alloc());
+    list_atoms(table.table(), asked.view.kept_namers(), &mut atoms)?;
+    append_atoms(table, asked.name, &atoms, out)?;
     Ok(())
 }
 
 /// Appends the atoms that name a name: by a table of all leads if there is one, else those of the packages with such an atom are
 /// enough.
-fn append_naming<'a>(
+fn append_naming(
     asking: &Asking<'_>,
     table: Option<&AskerTable<'_>>,
-    asked: &AskedName<'a>,
-    atoms: &mut Vec<ListedAtom<'a>>,
+    asked: &AskedName<'_>,
     out: &mut Vec<u8>,
 ) -> Result<(), AllocError>
     requires leads { IfSome table (λ table. table.now ≡ leads_of (world_of asking.now)) }
@@ -100,10 +99,10 @@ fn append_naming<'a>(
     ensures { OnOk result (out.new.items ≡ out.old.items ++ of_all_rows (world_of asking.now) (naming_lines asked.now.name.now)) }
 {
     match table {
-        Some(table) => append_by_atoms(asking, table, asked, atoms, out),
+        Some(table) => append_by_atoms(asking, table, asked, out),
         None => {
             let table = AskerTable::new(asking.alloc(), LeadTable::of_askers(asking, asked.name)?)?;
-            append_by_atoms(asking, &table, asked, atoms, out)
+            append_by_atoms(asking, &table, asked, out)
         }
     }
 }
@@ -176,11 +175,10 @@ fn show_versions(
     Ok(())
 }
 
-fn show_namers<'a>(
+fn show_namers(
     asking: &Asking<'_>,
     table: Option<&AskerTable<'_>>,
-    asked: &AskedName<'a>,
-    atoms: &mut Vec<ListedAtom<'a>>,
+    asked: &AskedName<'_>,
     out: &mut Vec<u8>,
 ) -> Result<(), AllocError>
     requires leads { IfSome table (λ table. table.now ≡ leads_of (world_of asking.now)) }
@@ -189,7 +187,7 @@ fn show_namers<'a>(
         ++ of_all_rows (world_of asking.now) (naming_lines asked.now.name.now))) }
 {
     out.extend_from_slice(b"Reverse Depends:\n")?;
-    append_naming(asking, table, asked, atoms, out)?;
+    append_naming(asking, table, asked, out)?;
     Ok(())
 }
 
@@ -232,11 +230,10 @@ fn show_providers(
 
 /// Appends the answer on a known name.
 #[tactic(auto, unfolding(crate::specs::ShowPackage::show_package_one))]
-fn append_known<'a>(
+fn append_known(
     asking: &Asking<'_>,
     table: Option<&AskerTable<'_>>,
-    asked: &AskedName<'a>,
-    atoms: &mut Vec<ListedAtom<'a>>,
+    asked: &AskedName<'_>,
     out: &mut Vec<u8>,
 ) -> Result<(), AllocError>
     requires leads { IfSome table (λ table. table.now ≡ leads_of (world_of asking.now)) }
@@ -249,18 +246,17 @@ fn append_known<'a>(
 {
     append_line(out, &[b"Package: ", asked.name])?;
     show_versions(asking, asked.view.rows(), out)?;
-    show_namers(asking, table, asked, atoms, out)?;
+    show_namers(asking, table, asked, out)?;
     show_relations(asking.store(), asked.view.rows(), out)?;
     show_entries(asking.store(), asked.view.rows(), out)?;
     show_providers(asking, asked.view.offering(), asked.name, out)
 }
 
-/// Appends the answer on a name. The list of atoms serves again for the next one.
-fn append_one<'a>(
-    asking: &Asking<'a>,
+/// Appends the answer on a name.
+fn append_one(
+    asking: &Asking<'_>,
     table: Option<&AskerTable<'_>>,
-    asked: &AskedName<'a>,
-    atoms: &mut Vec<ListedAtom<'a>>,
+    asked: &AskedName<'_>,
     out: &mut Vec<u8>,
 ) -> Result<(), AllocError>
     requires leads { IfSome table (λ table. table.now ≡ leads_of (world_of asking.now)) }
@@ -272,24 +268,23 @@ fn append_one<'a>(
         append_unknown(out, asked.name)?;
         return Ok(());
     }
-    append_known(asking, table, asked, atoms, out)?;
+    append_known(asking, table, asked, out)?;
     Ok(())
 }
 
-fn append_each<'a>(
-    asking: &Asking<'a>,
+fn append_each(
+    asking: &Asking<'_>,
     table: Option<&AskerTable<'_>>,
-    asked: &[AskedName<'a>],
+    asked: &[AskedName<'_>],
     out: &mut Vec<u8>,
 ) -> Result<(), AllocError>
     requires leads { IfSome table (λ table. table.now ≡ leads_of (world_of asking.now)) }
     requires looked_up { All (IsLookedUp asking.now) asked.now }
     ensures { OnOk result (out.new.items ≡ out.old.items ++ show_package_text (world_of asking.now) (names_asked asked.now)) }
 {
-    let mut atoms = Vec::new(asking.alloc());
     for at in 0..asked.len() {
         look_ahead_at_names(asking.store(), asked, at, out)?;
-        append_one(asking, table, &asked[at], &mut atoms, out)?;
+        append_one(asking, table, &asked[at], out)?;
     }
     Ok(())
 }

@@ -9,6 +9,6 @@ loop-at-preserved c =
     let line : ListedAtom → List ℕ = λ listed. line_at c.args.table.now c.args.name.now listed.at in
     let listed = c.index-atoms-at.result in
     c.in_ok-append_atom.ensures
-    ∙ ap (λ text. text ++ line listed) (c.in_ok-look_ahead_at_texts.ensures ∙ c.loop-at.invariant)
+    ∙ ap (λ text. text ++ line listed) (c.in_ok-reserve.ensures.items ∙ c.loop-at.invariant)
     ∙ append_assoc c.args.out.now.items (flat_map line (take c.loop-at.at c.args.atoms.now)) (line listed)
     ∙ ap (λ text. c.args.out.now.items ++ text) (sym (written_more line c.args.atoms.now c.loop-at.at listed c.loop-at-test.true c.index-atoms-at.is))

@@ -1,4 +1,4 @@
-use Rattle.std.proofs.Common.{◌∙◌, ◌++◌, take, ap, append_assoc, sym, arith}
+use Rattle.std.proofs.Common.{◌∙◌, ◌++◌, take, ap, append_assoc, sym}
 use Rattle.ctl_policy.specs.Priority.{world_of}
 use Rattle.ctl_query.specs.Inside.AskedNames.{names_asked}
 use Rattle.ctl_query.specs.ShowPackage.{show_package_one, show_package_text}
