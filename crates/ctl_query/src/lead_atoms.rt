@@ -153,8 +153,7 @@ fn put_in_order(atoms: &mut Vec<ListedAtom<'_>>)
     }
 }
 
-/// Lists the atoms of leads that name what these keys name, in order, each once, in place of those that were listed before: one
-/// list serves for name after name.
+/// Lists the atoms of leads that name what these keys name, in order, each once, in place of those that were listed before.
 pub(crate) fn list_atoms<'a>(
     table: &LeadTable<'_>,
     namers: KeptNamers<'a>,
