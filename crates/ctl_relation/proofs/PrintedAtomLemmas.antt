@@ -19,15 +19,10 @@ use Rattle.ctl_relation.specs.Reading.{◌>>=◌, name_at, qualifier_at, operato
 use Rattle.ctl_relation.specs.Inside.HeldPlaces.{atom_read}
 use Rattle.ctl_relation.specs.Inside.PrintedAtoms.{IsPrintedAtom, IsPrintedBound, ends_name}
 use Rattle.ctl_relation.proofs.AtomAgain.{blank_ends_version}
-use Rattle.ctl_relation.proofs.Found.{taken}
+use Rattle.ctl_relation.proofs.Found.{taken, bind_ok}
 use Rattle.ctl_relation.proofs.LongestRuns.{run-rest, rest-more, rest-all}
 
 -- ---- what was read step by step
-
--- where two steps are read, the first is
-bind_ok : {A B : Type 0} (r : Result A RelationFault) (f : A → Result B RelationFault) (y : B) → (r >>= f) ≡ Ok y → (x : A) × (r ≡ Ok x) × (f x ≡ Ok y)
-bind_ok (Ok x) f y e = (x, refl, e)
-bind_ok (Err fault) f y e = absurd (let z : ⊥ = cc in z)
 
 -- what is read in two ways is the same
 same_ok : {A : Type 0} (x y : A) → taken x ≡ taken y → x ≡ y
