@@ -11,6 +11,7 @@ ghost use Rattle.ctl_index.specs.declared.keys.ClauseKey.{ClauseKey};
 
 use crate::clause_number::ClauseNumber;
 use crate::keys::ClauseKey;
+use crate::packed_key::PackedKey;
 use crate::stanza_numbers::{ClausePlace, StanzaNumbers};
 use ctl_store::StanzaKey;
 use std::alloc::{AllocError, Global};
@@ -23,7 +24,7 @@ use std::marker::Model;
 #[derive(Drop)]
 pub struct ClauseNumbers {
     alloc: Global,
-    stanzas: BTreeMap<StanzaKey, StanzaNumbers>,
+    stanzas: BTreeMap<PackedKey, StanzaNumbers>,
 }
 
 impl Model for ClauseNumbers {
@@ -61,7 +62,7 @@ impl ClauseNumbers {
     pub fn get(&self, clause: ClauseKey) -> Option<u128>
         ensures { result ≡ number_among self.now clause }
     {
-        match self.stanzas.get(&clause.stanza) {
+        match self.stanzas.get(&PackedKey::new(clause.stanza)) {
             Some(numbers) => numbers.get(ClausePlace::of(clause)),
             None => None,
         }
@@ -73,7 +74,7 @@ impl ClauseNumbers {
         ensures after { (k : ClauseKey) → number_among self.new k
             ≡ option_map (counted_up (if is_eq (clause_cmp clause k) then 1 else 0)) (number_among self.old k) }
     {
-        match self.stanzas.get_mut(&clause.stanza) {
+        match self.stanzas.get_mut(&PackedKey::new(clause.stanza)) {
             Some(numbers) => numbers.raise(ClausePlace::of(clause)),
             None => None,
         }
@@ -85,7 +86,7 @@ impl ClauseNumbers {
         ensures after { (k : ClauseKey) → number_among self.new k
             ≡ option_map (λ n. n - (if is_eq (clause_cmp clause k) then 1 else 0)) (number_among self.old k) }
     {
-        match self.stanzas.get_mut(&clause.stanza) {
+        match self.stanzas.get_mut(&PackedKey::new(clause.stanza)) {
             Some(numbers) => numbers.lower(ClausePlace::of(clause)),
             None => None,
         }
@@ -96,7 +97,7 @@ impl ClauseNumbers {
         ensures { OnTrue result ((k : ClauseKey) → key_is k.stanza stanza ≡ true → number_among self.now k ≡ None) }
     {
         match self.stanzas.last_key_value() {
-            Some((last, _)) => last.cmp(&stanza).is_lt(),
+            Some((last, _)) => last.cmp(&PackedKey::new(stanza)).is_lt(),
             None => false,
         }
     }
@@ -110,7 +111,7 @@ impl ClauseNumbers {
         if self.ends_before(stanza) {
             return StanzaNumbers::none(self.alloc);
         }
-        let Some(numbers) = self.stanzas.remove(&stanza) else {
+        let Some(numbers) = self.stanzas.remove(&PackedKey::new(stanza)) else {
             return StanzaNumbers::none(self.alloc);
         };
         numbers
@@ -125,7 +126,7 @@ impl ClauseNumbers {
         ensures { OnOk result ((k : ClauseKey) → number_among self.new k
             ≡ (if key_is k.stanza stanza then number_at_place (place_of k) numbers else number_among self.old k)) }
     {
-        self.stanzas.insert(stanza, numbers)?;
+        self.stanzas.insert(PackedKey::new(stanza), numbers)?;
         Ok(())
     }
 
@@ -144,7 +145,7 @@ impl ClauseNumbers {
 /// Clauses with their numbers, by [`ClauseNumbers::iter`].
 #[derive(Drop)]
 pub struct NumberedClauses<'a> {
-    stanzas: btree_map::Iter<'a, StanzaKey, StanzaNumbers>,
+    stanzas: btree_map::Iter<'a, PackedKey, StanzaNumbers>,
     // Those that are left of this stanza come before those of the others.
     stanza: StanzaKey,
     clauses: &'a [(ClausePlace, ClauseNumber)],
@@ -176,7 +177,7 @@ impl<'a> Iterator for NumberedClauses<'a> {
                 return Some((clause.0.clause(self.stanza), clause.1.get()));
             }
             let (stanza, numbers) = self.stanzas.next()?;
-            self.stanza = *stanza;
+            self.stanza = stanza.key();
             self.clauses = numbers.as_slice();
         }
     }

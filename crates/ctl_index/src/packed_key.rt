@@ -1,17 +1,23 @@
 //! Keys of stanzas in few bytes.
 
-ghost use Rattle.std.specs.Prelude.{◌≡◌};
+ghost use Rattle.std.specs.Prelude.{◌≡◌, Some, refl};
+ghost use Rattle.std.specs.Cmp.{po, partial_equiv_from_equiv};
+ghost use Rattle.std.specs.Ordering.{eq_by_cmp};
+ghost use Rattle.ctl_store.specs.Keys.{key_cmp};
+ghost use Rattle.ctl_index.specs.ClauseOrder.{stanzas_equiv, stanzas_total};
 
 use ctl_store::StanzaKey;
+use std::cmp::Ordering;
 use std::marker::Model;
 use std::mem::size_of;
 
 // What one counts in the upper half of a stanza's number.
 const HIGH_UNIT: u64 = 4_294_967_296;
 
-/// The key of a stanza, kept in 12 bytes. A [`StanzaKey`] takes 16, since its 64-bit number stands at a multiple of eight.
+/// The key of a stanza, kept in 12 bytes. A [`StanzaKey`] takes 16, since its 64-bit number stands at a multiple of eight. They stand
+/// in the same order.
 ///
-/// The tables keep one for each offer, and for each atom that names a name.
+/// The tables keep one for each offer, for each atom that names a name, and for each stanza that has clauses.
 #[derive(Clone, Copy)]
 pub(crate) struct PackedKey {
     list: u32,
@@ -61,5 +67,43 @@ impl PackedKey {
             list: self.list,
             stanza: self.high as u64 * HIGH_UNIT + self.low as u64,
         }
+    }
+}
+
+impl PartialEq for PackedKey {
+    ghost eq = { eq_by_cmp key_cmp };
+
+    ghost laws = { partial_equiv_from_equiv stanzas_equiv };
+
+    fn eq(&self, other: &PackedKey) -> bool {
+        self.cmp(other).is_eq()
+    }
+}
+
+impl Eq for PackedKey {
+    ghost laws = { stanzas_equiv };
+}
+
+impl PartialOrd for PackedKey {
+    ghost partial_cmp = { λ a b. Some (key_cmp a b) };
+
+    ghost laws = { po stanzas_total (λ a b. refl) };
+
+    fn partial_cmp(&self, other: &PackedKey) -> Option<Ordering> {
+        Some(self.cmp(other))
+    }
+}
+
+impl Ord for PackedKey {
+    ghost cmp = { key_cmp };
+
+    ghost total = { stanzas_total };
+
+    ghost matches_partial_cmp = { λ a b. refl };
+
+    ghost matches_eq = { λ a b. refl };
+
+    fn cmp(&self, other: &PackedKey) -> Ordering {
+        self.key().cmp(&other.key())
     }
 }

@@ -13,27 +13,28 @@ use ctl_stanza::Stanza;
 use ctl_store::Store;
 use std::alloc::{AllocError, Global};
 
-// How many atoms are looked at ahead.
+// How many atoms or names are looked at ahead.
 const AHEAD: usize = 32;
 
-// Of fewer atoms none is: there is little to wait for at once.
+// Of fewer none is: there is little to wait for at once.
 const FEW: usize = 4;
 
-// Up to which place atoms are looked at from this one on, where those before it are written: in between to none.
-fn end_of_look(atoms: usize, at: usize) -> usize {
-    if at % AHEAD != 0 || atoms < FEW {
-        return at;
+// Those of these that are looked at from a place on, where those before it are written: in between none.
+fn next_of<T>(items: &[T], at: usize) -> &[T] {
+    if at % AHEAD != 0 || items.len() < FEW {
+        return &[];
     }
-    at.saturating_add(AHEAD).min(atoms)
+    let end = at.saturating_add(AHEAD).min(items.len());
+    match items.get(at..end) {
+        Some(next) => next,
+        None => &[],
+    }
 }
 
-// How many bytes the packages of the leads of the next atoms have, with how many groups there are in their fields.
-fn groups_of_fields(table: &LeadTable<'_>, atoms: &[ListedAtom<'_>], at: usize) -> usize {
+// How many bytes the packages of the leads of these atoms have, with how many groups there are in their fields.
+fn groups_of_fields(table: &LeadTable<'_>, atoms: &[ListedAtom<'_>]) -> usize {
     let mut groups: usize = 0;
-    for place in at..end_of_look(atoms.len(), at) {
-        let Some(atom) = atoms.get(place) else {
-            return groups;
-        };
+    for atom in atoms {
         if let Some(lead) = table.lead(atom.at.place) {
             let more = lead
                 .package()
@@ -55,7 +56,7 @@ pub(crate) fn look_ahead(
 ) -> Result<(), AllocError>
     ensures { OnOk result (out.new.items ≡ out.old.items) }
 {
-    out.reserve(groups_of_fields(table, atoms, at))
+    out.reserve(groups_of_fields(table, next_of(atoms, at)))
 }
 
 // ---- at the texts of leads
@@ -95,55 +96,43 @@ pub(crate) fn room_of_texts(
     atoms: &[ListedAtom<'_>],
     at: usize,
 ) -> usize {
-    match atoms.get(at..end_of_look(atoms.len(), at)) {
-        Some(next) => bytes_of_texts(table, next).saturating_add(groups_to_read(table, name, next)),
-        None => 0,
-    }
+    let next = next_of(atoms, at);
+    bytes_of_texts(table, next).saturating_add(groups_to_read(table, name, next))
 }
 
 // ---- at names that are asked for
 
-// How many stanzas there are in the newest rows of the next names.
-fn stanzas_of_rows(asked: &[AskedName<'_>], at: usize) -> usize {
+// How many stanzas there are in the newest rows of these names.
+fn stanzas_of_rows(names: &[AskedName<'_>]) -> usize {
     let mut stanzas: usize = 0;
-    for place in at..end_of_look(asked.len(), at) {
-        let Some(one) = asked.get(place) else {
-            return stanzas;
-        };
-        if let Some(row) = one.view.rows().next() {
+    for name in names {
+        if let Some(row) = name.view.rows().next() {
             stanzas = stanzas.saturating_add(row.len());
         }
     }
     stanzas
 }
 
-// How many of the next names are named by an atom in the first group of a field before all others.
-fn named_first(asked: &[AskedName<'_>], at: usize) -> usize {
+// How many of these names are named by an atom in the first group of a field before all others.
+fn named_first(names: &[AskedName<'_>]) -> usize {
     let mut named: usize = 0;
-    for place in at..end_of_look(asked.len(), at) {
-        let Some(one) = asked.get(place) else {
-            return named;
-        };
-        if let Some(namer) = one.view.kept_namers().next() {
+    for name in names {
+        if let Some(namer) = name.view.kept_namers().next() {
             named = named.saturating_add((namer.key().group == 0) as usize);
         }
     }
     named
 }
 
-// The leads of the newest rows of the next names.
+// The leads of the newest rows of these names.
 fn newest_leads<'a>(
     alloc: Global,
     store: &'a Store,
-    asked: &[AskedName<'_>],
-    at: usize,
+    names: &[AskedName<'_>],
 ) -> Result<Vec<&'a Stanza>, AllocError> {
-    let mut leads = Vec::with_capacity(alloc, AHEAD)?;
-    for place in at..end_of_look(asked.len(), at) {
-        let Some(one) = asked.get(place) else {
-            return Ok(leads);
-        };
-        if let Some(row) = one.view.rows().next() {
+    let mut leads = Vec::with_capacity(alloc, names.len())?;
+    for name in names {
+        if let Some(row) = name.view.rows().next() {
             if let Some(lead) = lead_in(store, row) {
                 leads.push(lead)?;
             }
@@ -185,12 +174,13 @@ pub(crate) fn look_ahead_at_names(
 ) -> Result<(), AllocError>
     ensures { OnOk result (out.new.items ≡ out.old.items) }
 {
-    if end_of_look(asked.len(), at) == at {
+    let next = next_of(asked, at);
+    if next.is_empty() {
         return Ok(());
     }
-    let stanzas = stanzas_of_rows(asked, at);
-    let named = named_first(asked, at);
-    let leads = newest_leads(*out.allocator(), store, asked, at)?;
+    let stanzas = stanzas_of_rows(next);
+    let named = named_first(next);
+    let leads = newest_leads(*out.allocator(), store, next)?;
     let groups = groups_of_leads(&leads);
     let first = leads_that_depend_first_on(b"-", &leads);
     out.reserve(

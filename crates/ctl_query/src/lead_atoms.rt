@@ -20,7 +20,7 @@ use ctl_index::{KeptNamer, KeptNamers};
 use ctl_relation::{Atom, FieldKind};
 use ctl_stanza::Stanza;
 use ctl_store::{StanzaKey, compare_keys};
-use std::alloc::AllocError;
+use std::alloc::{AllocError, Global};
 
 /// Where an atom of a lead stands: the place of its lead among all leads, its field, the place of its group in the field and its
 /// own in the group, counted from 0. They stand in the order of these parts.
@@ -153,24 +153,24 @@ fn put_in_order(atoms: &mut Vec<ListedAtom<'_>>)
     }
 }
 
-/// Lists the atoms of leads that name what these keys name, in order, each once, in place of those that were listed before.
+/// The atoms of leads that name what these keys name, in order, each once.
 pub(crate) fn list_atoms<'a>(
+    alloc: Global,
     table: &LeadTable<'_>,
     namers: KeptNamers<'a>,
-    atoms: &mut Vec<ListedAtom<'a>>,
-) -> Result<(), AllocError>
-    ensures order { OnOk result (IsStrictlySortedBy lead_atom_cmp (places_in atoms.new.items)) }
-    ensures members { OnOk result ((a : LeadAtom) → is_listed (places_in atoms.new.items) a
+) -> Result<Vec<ListedAtom<'a>>, AllocError>
+    ensures order { IfOk result (λ atoms. IsStrictlySortedBy lead_atom_cmp (places_in atoms.items)) }
+    ensures members { IfOk result (λ atoms. (a : LeadAtom) → is_listed (places_in atoms.items) a
         ≡ list_any (λ (n : KeyAndKept). is_at table.now n.0 a) namers.entry) }
-    ensures kept { OnOk result ((name : List ℕ) → All (IsKeptOf table.now name) namers.entry
-        → All (IsKept table.now name) atoms.new.items) }
+    ensures kept { IfOk result (λ atoms. (name : List ℕ) → All (IsKeptOf table.now name) namers.entry
+        → All (IsKept table.now name) atoms.items) }
 {
-    atoms.clear();
+    let mut atoms = Vec::new(alloc);
     'namers: for namer in namers {
-        push_atom(atoms, table, namer)?;
+        push_atom(&mut atoms, table, namer)?;
     }
-    put_in_order(atoms);
-    Ok(())
+    put_in_order(&mut atoms);
+    Ok(atoms)
 }
 
 /// The atom of a lead, if it is there, read in its field.

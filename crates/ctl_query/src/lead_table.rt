@@ -11,7 +11,7 @@ ghost use Rattle.ctl_query.specs.NameSet.{lent_names};
 
 use crate::asking::Asking;
 use crate::interest::packages_naming;
-use crate::leads::Leads;
+use crate::leads::{Leads, keyed_stanza};
 use ctl_stanza::Stanza;
 use ctl_store::{StanzaKey, Store, compare_keys};
 use std::alloc::{AllocError, Global};
@@ -43,23 +43,6 @@ impl<'a> Model for LeadTable<'a> {
         × IfSome table.places (λ places. ArePlaces (lent_leads table.leads.items) places.items) };
 }
 
-// Adds the stanza of a key under it, if there is one.
-fn push_under<'a>(
-    store: &'a Store,
-    key: StanzaKey,
-    leads: &mut Vec<(StanzaKey, &'a Stanza)>,
-) -> Result<(), AllocError>
-    ensures { OnOk result (lent_leads leads.new.items ≡ lent_leads leads.old.items ++ keyed_stanza (world_of store.now) key) }
-{
-    match store.find(key) {
-        Some(stanza) => {
-            leads.push((key, stanza))?;
-            Ok(())
-        }
-        None => Ok(()),
-    }
-}
-
 // The stanzas of these keys, each under its key.
 fn leads_under<'a>(
     asking: &Asking<'a>,
@@ -69,7 +52,9 @@ fn leads_under<'a>(
 {
     let mut leads = Vec::with_capacity(asking.alloc(), keys.len())?;
     for key in keys {
-        push_under(asking.store(), *key, &mut leads)?;
+        if let Some(lead) = keyed_stanza(asking.store(), *key) {
+            leads.push(lead)?;
+        }
     }
     Ok(leads)
 }

@@ -5,7 +5,7 @@ ghost use Rattle.std.specs.Option.{option_to_list};
 ghost use Rattle.ctl_store.specs.Store.{keyed_of};
 ghost use Rattle.ctl_policy.specs.Rows.{version_under};
 ghost use Rattle.ctl_policy.specs.Priority.{world_of};
-ghost use Rattle.ctl_query.specs.Leads.{keyed_lead, lent_lead};
+ghost use Rattle.ctl_query.specs.Leads.{keyed_lead, keyed_stanza, lent_lead};
 ghost use Rattle.ctl_query.specs.Packages.{stanza_under, lead_in};
 
 use ctl_policy::NewestFirst;
@@ -46,13 +46,22 @@ pub(crate) fn version_under(store: &Store, key: Option<StanzaKey>) -> Option<&Ve
 
 // ---- of rows, one after another
 
+/// The stanza of a key under it, if there is one.
+pub(crate) fn keyed_stanza(store: &Store, key: StanzaKey) -> Option<(StanzaKey, &Stanza)>
+    ensures { option_to_list (option_map lent_lead result) ≡ keyed_stanza (world_of store.now) key }
+{
+    match store.find(key) {
+        Some(stanza) => Some((key, stanza)),
+        None => None,
+    }
+}
+
 // The lead of a row, which has these stanzas, under its key.
 fn keyed_lead<'a>(store: &'a Store, row: &[StanzaKey]) -> Option<(StanzaKey, &'a Stanza)>
     ensures { option_to_list (option_map lent_lead result) ≡ keyed_lead (world_of store.now) row.now }
 {
-    let key = row.first().copied()?;
-    match store.find(key) {
-        Some(lead) => Some((key, lead)),
+    match row.first() {
+        Some(key) => keyed_stanza(store, *key),
         None => None,
     }
 }

@@ -169,8 +169,7 @@ pub(crate) fn append_by_atoms(
 {
     rows_are_classes();
     stanzas_are_found(depending.asking);
-    let mut atoms = Vec::new(depending.asking.alloc());
-    list_atoms(table, asked.view.kept_namers(), &mut atoms)?;
+    let atoms = list_atoms(depending.asking.alloc(), table, asked.view.kept_namers())?;
     let mut found = None;
     for at in 0..atoms.len() {
         look_ahead(table, &atoms, at, out)?;

@@ -80,8 +80,7 @@ fn append_by_atoms(
 {
     rows_are_classes();
     stanzas_are_found(asking);
-    let mut atoms = Vec::new(asking.alloc());
-    list_atoms(table.table(), asked.view.kept_namers(), &mut atoms)?;
+    let atoms = list_atoms(asking.alloc(), table.table(), asked.view.kept_namers())?;
     append_atoms(table, asked.name, &atoms, out)?;
     Ok(())
 }

@@ -7,4 +7,4 @@ use Rattle.ctl_index.specs.declared.offer_list.Form.TheVariants.{Empty, One, Man
 abbrev pub offers_of_form : Form → List OfferKey
 offers_of_form Empty = []
 offers_of_form (One key) = key ∷ []
-offers_of_form (Many keys) = keys
+offers_of_form (Many keys) = keys.value

@@ -26,7 +26,8 @@ impl Cache {
         requires { self.now.stale ≡ false }
         ensures { IfOk result (λ leads. leads.items ≡ lead_keys self.now.store) }
     {
-        let mut leads = Vec::new(self.alloc);
+        // Mostly each stanza is the lead of its row.
+        let mut leads = Vec::with_capacity(self.alloc, self.store.counts().stanzas as usize)?;
         'names: for rows in self.all_rows() {
             push_leads(rows, &mut leads)?;
         }
