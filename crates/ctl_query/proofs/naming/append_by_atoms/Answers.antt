@@ -19,7 +19,7 @@ use Rattle.ctl_query.proofs.naming.append_by_atoms.Goals as goal
 
 pub loop-at-preserved : goal.loop-at-preserved
 loop-at-preserved c =
-    let atoms = c.list_atoms.new.atoms.items in
+    let atoms = c.in_ok-atoms.atoms.items in
     let a = c.index.result.now in
     let told : ListedAtom → List Naming = λ listed. namings_at c.args.table.now listed.at in
     let left = flat_map told (drop (c.loop-at.at + 1) atoms) in
@@ -37,7 +37,7 @@ unfolding lines_behind
 returns c =
     let store = c.args.depending.now.asking.now in
     let name = c.args.asked.now.name.now in
-    let atoms = c.list_atoms.new.atoms.items in
+    let atoms = c.in_ok-atoms.atoms.items in
     let told = namings_at c.args.table.now in
     let lines : Option Naming → List ListedAtom → List ℕ = λ found left. lines_behind (world_of store) c.args.depending.now.installed found (flat_map (λ (listed : ListedAtom). told listed.at) left) in
     let same : IsPermutation (kept_namers_named name (standing store)) c.kept_namers.result = subst (IsPermutation (kept_namers_named name (standing store))) (sym c.kept_namers.ensures) c.requires.namers in
@@ -48,9 +48,9 @@ returns c =
     ∙ ap (λ text. c.args.out.now.items ++ text)
     (ap (lines_behind (world_of store) c.args.depending.now.installed None)
     (all_named c.args.table.now name atoms
-    (c.in_ok-list_atoms.ensures.kept name (namers_are_kept store c.stanzas_are_found.ensures name c.args.table.now c.requires.enough c.kept_namers.result same))
+    (c.in_ok-atoms.ensures.kept name (namers_are_kept store c.stanzas_are_found.ensures name c.args.table.now c.requires.enough c.kept_namers.result same))
     ∙ of_places (namings_named c.args.table.now name) atoms)
-    ∙ lines_are_enough c.rows_are_classes.ensures store c.stanzas_are_found.ensures name c.args.table.now c.requires.enough (places_in atoms) c.in_ok-list_atoms.ensures.order
-    (λ (a : LeadAtom). c.in_ok-list_atoms.ensures.members a
+    ∙ lines_are_enough c.rows_are_classes.ensures store c.stanzas_are_found.ensures name c.args.table.now c.requires.enough (places_in atoms) c.in_ok-atoms.ensures.order
+    (λ (a : LeadAtom). c.in_ok-atoms.ensures.members a
     ∙ any_named (λ (k : AtomKey). is_at c.args.table.now k a) name (standing store) c.kept_namers.result same)
     c.args.depending.now.installed)

@@ -24,8 +24,8 @@ append_atoms-requires c =
     let same_namers : IsPermutation (kept_namers_named name (standing store)) c.kept_namers.result = subst (IsPermutation (kept_namers_named name (standing store))) (sym c.kept_namers.ensures) c.requires.namers in
     let kept = namers_are_kept store c.stanzas_are_found.ensures name leads c.requires.enough c.kept_namers.result same_namers in
     All-same (IsKept leads name) _ _ c.deref.ensures.value
-    (subst (λ (ls : List Entry). All (IsKept ls name) c.list_atoms.new.atoms.items) same
-    (c.in_ok-list_atoms.ensures.kept name (subst (λ (ls : List Entry). All (IsKeptOf ls name) c.kept_namers.result) (sym same) kept)))
+    (subst (λ (ls : List Entry). All (IsKept ls name) c.in_ok-atoms.atoms.items) same
+    (c.in_ok-atoms.ensures.kept name (subst (λ (ls : List Entry). All (IsKeptOf ls name) c.kept_namers.result) (sym same) kept)))
 
 pub returns : goal.returns
 returns c =
@@ -34,13 +34,13 @@ returns c =
     let leads = c.args.table.now in
     let same : c.table.result.now ≡ leads = c.table.ensures in
     let same_namers : IsPermutation (kept_namers_named name (standing store)) c.kept_namers.result = subst (IsPermutation (kept_namers_named name (standing store))) (sym c.kept_namers.ensures) c.requires.namers in
-    let atoms = c.list_atoms.new.atoms.items in
+    let atoms = c.in_ok-atoms.atoms.items in
     c.in_ok-append_atoms.ensures
     ∙ ap (λ text. c.args.out.now.items ++ text)
     (ap (flat_map (λ (listed : ListedAtom). line_at leads name listed.at)) c.deref.ensures.value
     ∙ of_places (line_at leads name) atoms
-    ∙ atoms_are_enough c.rows_are_classes.ensures store c.stanzas_are_found.ensures name leads c.requires.enough (places_in atoms) c.in_ok-list_atoms.ensures.order
+    ∙ atoms_are_enough c.rows_are_classes.ensures store c.stanzas_are_found.ensures name leads c.requires.enough (places_in atoms) c.in_ok-atoms.ensures.order
     (λ (a : LeadAtom).
-    c.in_ok-list_atoms.ensures.members a
+    c.in_ok-atoms.ensures.members a
     ∙ ap (λ (ls : List Entry). list_any (λ (n : KeptNamer). is_at ls n.0 a) c.kept_namers.result) same
     ∙ any_named (λ (k : AtomKey). is_at leads k a) name (standing store) c.kept_namers.result same_namers))
