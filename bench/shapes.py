@@ -1,20 +1,23 @@
 #!/usr/bin/env python3
-"""Measures how the edits of a kept cache, and what it answers, grow with the shape of what it holds.
+"""Measures how the edits of a kept cache, the lists that it loads, and what it answers, grow with the shape of what it holds.
 
     bench/shapes.py [WORD..]
 
-For each shape at a size, twice and four times it: the mean time of each edit or answer, and the exponent with which it grows, that is
-the power of the size that takes the least of the three times to the greatest. 0 is a time that doesn't grow, 1 one that grows as
-the size does. With words, only the shapes whose names have one of them. The times of edits are those of the edits alone, each the
-least of some runs; an answer's goes from the first byte that is written to a session to the last that it answers. `rt run` in
+For each shape at a size, twice and four times it: the mean time of each edit, answer, or stanza or name of a list, and the exponent with
+which it grows, that is the power of the size that takes the least of the three times to the greatest. 0 is a time that doesn't grow, 1
+one that grows as the size does. With words, only the shapes whose names have one of them. The times of edits are those of the edits
+alone, each the least of some runs; an answer's goes from the first byte that is written to a session to the last that it answers, and so
+does that of a list that comes or goes. `rt run` in
 crates/probe builds the program whose edits are measured; the variable PROBE of the environment names another. What answers is
 crates/dctrl_cache/out/dctrl_cache, or what the variable PROGRAM names. A busy machine raises the numbers; the exponents say whether a
 shape is bad.
 
 The limits are printed beside the numbers, and nothing is refused by them."""
 
+import itertools
 import math
 import os
+import string
 import sys
 import tempfile
 
@@ -170,6 +173,64 @@ def measured(shape, count, folder):
     return means
 
 
+# Shapes of lists: their stanzas
+
+def numbered(count):
+    return [f"name-{number:07}" for number in range(count)]
+
+
+def names_that_rise(count):
+    return [stanza(name, 1) for name in numbered(count)]
+
+
+def names_that_fall(count):
+    return [stanza(name, 1) for name in reversed(numbered(count))]
+
+
+def names_in_no_order(count):
+    # The number is prime, and divides no count.
+    return [stanza(f"name-{number * 7_368_787 % count:07}", 1) for number in range(count)]
+
+
+def names_with_one_front(count):
+    return [stanza("front" * 12 + f"-{number}", 1) for number in range(count)]
+
+
+def stanzas_that_are_equal(count):
+    return [stanza("one", 1)] * count
+
+
+def one_name_in_each_stanza(count):
+    return [stanza(name, 1) + "Depends: one (>= 2)\n" for name in numbered(count)]
+
+
+def many_names_in_one_stanza(count):
+    fields = ["Pre-Depends", "Depends", "Recommends", "Suggests", "Enhances", "Breaks", "Conflicts", "Replaces"]
+    names = ["".join(letters) for letters in itertools.islice(itertools.product(string.ascii_lowercase, repeat=5), count)]
+    part = -(-count // len(fields))
+    whole = "".join(f"{field}: {','.join(names[at * part:(at + 1) * part])}\n" for at, field in enumerate(fields))
+    return [stanza("one", 1) + whole]
+
+
+# Each with its least size: a list comes and goes in n log n, so that the mean of one stanza or name hardly grows.
+LIST_SHAPES = [
+    (shape, 25_000, {"comes": 0.35, "goes": 0.35})
+    for shape in (names_that_rise, names_that_fall, names_in_no_order, names_with_one_front, stanzas_that_are_equal, one_name_in_each_stanza)
+] + [(many_names_in_one_stanza, 250_000, {"comes": 0.35, "goes": 0.35})]
+
+
+def loaded(shape, count, _folder):
+    """The mean time of a stanza or a name of a list that comes, and that goes again."""
+    comes = script_list("main", shape(count)).encode()
+    spent = {"comes": [], "goes": []}
+    for _ in range(ANSWER_TURNS):
+        session = Session(PROGRAM, [])
+        spent["comes"].append(session.time(comes))
+        spent["goes"].append(session.time(b"drop-list main\n"))
+        session.close()
+    return {what: min(seconds) / count for what, seconds in spent.items()}
+
+
 def exponent(times, factor):
     return math.log(times[-1] / times[0]) / math.log(factor)
 
@@ -181,7 +242,7 @@ def show(shape, least, limits, means_of, folder):
     for what in means[0]:
         times = [mean[what] for mean in means]
         bound = f"  (at most {limits[what]})" if what in limits else ""
-        numbers = " ".join("%10.1f" % (time * 1e6) for time in times)
+        numbers = " ".join("%10.2f" % (time * 1e6) for time in times)
         print("  %-20s %s microseconds, exponent %5.2f%s" % (what, numbers, exponent(times, 4), bound), flush=True)
 
 
@@ -190,13 +251,15 @@ def chosen(shapes, words):
 
 
 def main(words):
-    edits, answers = chosen(SHAPES, words), chosen(ANSWER_SHAPES, words)
+    edits, lists, answers = chosen(SHAPES, words), chosen(LIST_SHAPES, words), chosen(ANSWER_SHAPES, words)
     if edits:
         need_probe()
     with tempfile.TemporaryDirectory() as folder:
         os.chmod(folder, 0o755)
         for shape, least, limits in edits:
             show(shape, least, limits, measured, folder)
+        for shape, least, limits in lists:
+            show(shape, least, limits, loaded, folder)
         for shape, least, limits in answers:
             show(shape, least, limits, answered, folder)
 

@@ -1,5 +1,5 @@
 -- Rows follow stanzas that come or go, one after another.
-use Rattle.std.proofs.Common.{◌≡◌, ◌<◌, ◌+◌, ℕ, Bool, true, false, cond, List, [], ◌∷◌, ◌++◌, length, take, get_or, Option, None, Some, Result, Ok, Err, OnOk, refl, ap, sym, subst, ◌∙◌}
+use Rattle.std.proofs.Common.{◌≡◌, ◌<◌, ◌+◌, ℕ, Bool, true, false, cond, List, [], ◌∷◌, ◌++◌, length, take, drop, drop-cons, add-one, get_or, Option, None, Some, Result, Ok, Err, OnOk, refl, ap, sym, subst, ◌∙◌}
 use Rattle.std.specs.List.{AllByRecursion}
 use Rattle.std.specs.Option.{option_map, option_or}
 use Rattle.std.proofs.lemmas.List.{take_more}
@@ -9,7 +9,7 @@ use Rattle.ctl_store.specs.declared.stanza_key.StanzaKey.{StanzaKey}
 use Rattle.ctl_store.specs.Keys.{key_is}
 use Rattle.ctl_store.specs.Entries.{Entry, entries_by}
 use Rattle.ctl_store.specs.Followed.{under, AreApart}
-use Rattle.ctl_policy.specs.Kept.{RowsByName, Stanzas, with_stanza, without_stanza}
+use Rattle.ctl_policy.specs.Kept.{RowsByName, Stanzas, IsKept, with_stanza, without_stanza}
 use Rattle.ctl_index.specs.Inside.TablesParts.{AreParted}
 use Rattle.ctl_index.specs.Inside.TablesRows.{AreRowsPut, AreRowsTaken}
 use Rattle.ctl_index.proofs.SeenLemmas.{key_is-same}
@@ -109,12 +109,23 @@ module _ (find : Stanzas) (keys : List StanzaKey) (i : ℕ) (d : StanzaKey) (bel
       then all _ (first all rest _ next done parted is (other_has done next has)) (apart_back done next apart)
       (one _ rest (second all rest _ next done parted is (other_has done next has)) (apart_front done next apart) kept))
 
-  pub more_taken : (old mid new : RowsByName) → AreRowsTaken done old mid → AreRowsTaken next mid new → AreRowsTaken (entries_by find (take (i + 1) keys)) old new
-  more_taken old mid new one then = subst (λ es. AreRowsTaken es old new) more
+  -- from the last key back
+  abbrev later : List Entry
+  later = entries_by find (drop (i + 1) keys)
+
+  back : next ++ later ≡ entries_by find (drop i keys)
+  back = sym (ap (entries_by find) (drop-cons keys i d below ∙ ap (λ ks. get_or keys i d ∷ ks) (ap (λ n. drop n keys) (sym (add-one i)))) ∙ filter_map-append (λ k. option_map (λ (x : Content). (k, x)) (find k)) (get_or keys i d ∷ []) (drop (i + 1) keys))
+
+  pub more_taken_back : (old mid new : RowsByName) → AreRowsTaken later old mid → AreRowsTaken next mid new → AreRowsTaken (entries_by find (drop i keys)) old new
+  more_taken_back old mid new one then = subst (λ es. AreRowsTaken es old new) back
       (λ all rest parted apart kept.
-      let has = one_has done next apart in
-      let is : (k : StanzaKey) → under k (done ++ next) ≡ option_or (under k done) (under k next) = λ k. under-append k done next in
-      then _ rest (second all rest _ done next parted is has) (apart_back done next apart) (one all _ (first all rest _ done next parted is has) (apart_front done next apart) kept))
+      let has = one_has next later apart in
+      let is : (k : StanzaKey) → under k (next ++ later) ≡ option_or (under k later) (under k next) = λ k. under-append k next later ∙ turned_or (under k next) (under k later) (has k) in
+      then _ rest (second all rest _ later next parted is (other_has next later has)) (apart_front next later apart)
+      (one all _ (first all rest _ later next parted is (other_has next later has)) (apart_back next later apart) kept))
+
+pub none_taken : (rows : RowsByName) → AreRowsTaken [] rows rows
+none_taken rows = λ all rest parted apart kept. subst (IsKept rows) (λ i k. parted.unders k i) kept
 
 pub on_ok_both : {X E : Type 0} (r : Result X E) {P Q R : Type 0} → (P → Q → R) → OnOk r P → OnOk r Q → OnOk r R
 on_ok_both (Ok x) f p q = f p q

@@ -81,8 +81,9 @@ pub(crate) fn take_rows(pending: &PendingStore<'_>, keys: &[StanzaKey], names: &
     ensures offers { offers_under names.new.map ≡ offers_under names.old.map }
     ensures namers { namers_under names.new.map ≡ namers_under names.old.map }
 {
-    for key in keys {
-        take_row_at(pending, *key, names);
+    // The last goes first: in its row no key of its list stands behind it, which would have to be moved.
+    for place in (0..keys.len()).rev() {
+        take_row_at(pending, keys[place], names);
     }
 }
 
