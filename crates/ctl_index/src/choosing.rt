@@ -42,14 +42,11 @@ fn are_asked(list: Option<u32>, rows: &Rows) -> bool
     }
 }
 
-// Chooses anew for a name, if it is asked for. Room that lists of its offers and atoms took ahead
-// is let go: a long list has come.
+// Chooses anew for a name, if it is asked for.
 fn choose_named(store: &Store, list: Option<u32>, name: &[u8], named: &mut Named)
     requires { AreRowsOf (named_own named.old).rows name.now (keyed_of store.now).lists }
     ensures { named.new ≡ chosen_anew store.now list name.now named.old }
 {
-    named.offers.trim();
-    named.namers.trim();
     if are_asked(list, &named.own.rows) {
         named.own.chosen = KeptChoice::new(choose(store, name, &named.own.rows));
     }

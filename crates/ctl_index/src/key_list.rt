@@ -116,13 +116,6 @@ impl<K: OfStanza> KeyList<K> {
         Ok(())
     }
 
-    /// Room that no key takes is let go.
-    pub(crate) fn trim(&mut self)
-        ensures { self.new ≡ self.old }
-    {
-        self.keys.shrink_to_fit();
-    }
-
     /// Those of a span go, which stand together.
     pub(crate) fn take(&mut self, span: Span)
         ensures { self.new ≡ others K.stanza span self.old }

@@ -131,15 +131,6 @@ impl OfferList {
         put_in(self.alloc, &mut self.form, key)
     }
 
-    /// Room that no key takes is let go.
-    pub(crate) fn trim(&mut self)
-        ensures { self.new ≡ self.old }
-    {
-        if let Form::Many(keys) = &mut self.form {
-            keys.as_mut().trim();
-        }
-    }
-
     /// Those of a span go, which stand together.
     pub(crate) fn take(&mut self, span: Span)
         ensures { self.new ≡ others offer_stanza span self.old }

@@ -21,7 +21,7 @@ use Rattle.ctl_index.specs.declared.keys.AtomKey.{AtomKey}
 use Rattle.ctl_index.specs.HeldCache.{standing}
 use Rattle.ctl_index.specs.Names.{naming_fields, keyed_group, keyed_groups, keyed_atoms, namers_named}
 use Rattle.ctl_query.specs.declared.lead_atoms.LeadAtom.{LeadAtom}
-use Rattle.ctl_query.specs.Inside.Leads.{lead_atom_cmp, atom_in, line_in, line_at, is_key_of, is_at, atom_of}
+use Rattle.ctl_query.specs.Leads.{lead_atom_cmp, atom_in, line_in, line_at, is_key_of, is_at, atom_of}
 use Rattle.ctl_query.specs.ShowPackage.{line_if_naming, naming_in, naming_lines}
 use Rattle.ctl_query.proofs.EntryLemmas.{stanza_under}
 use Rattle.ctl_query.proofs.LeadAtomLemmas.{nat_itself, tie_is}

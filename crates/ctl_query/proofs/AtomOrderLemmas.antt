@@ -19,7 +19,7 @@ use Rattle.ctl_store.specs.Entries.{Entry}
 use Rattle.ctl_index.specs.declared.keys.AtomKey.{AtomKey}
 use Rattle.ctl_index.specs.Names.{naming_fields, keyed_group, keyed_groups, keyed_atoms}
 use Rattle.ctl_query.specs.declared.lead_atoms.LeadAtom.{LeadAtom}
-use Rattle.ctl_query.specs.Inside.Leads.{lead_atom_cmp, atom_of}
+use Rattle.ctl_query.specs.Leads.{lead_atom_cmp, atom_of}
 use Rattle.ctl_query.proofs.AtomLemmas.{atoms_in, atoms_from}
 use Rattle.ctl_query.proofs.InterestLemmas.{skip, and_false, turned}
 

@@ -7,7 +7,7 @@ use Rattle.ctl_store.specs.Entries.{AreAt}
 use Rattle.ctl_store.specs.Store.{Held, keyed_of}
 use Rattle.ctl_index.specs.HeldCache.{standing}
 use Rattle.ctl_policy.specs.Priority.{World, world_of}
-use Rattle.ctl_query.specs.Inside.Interest.{names_it, provides_it, has_unmet}
+use Rattle.ctl_query.specs.Interest.{names_it, provides_it, has_unmet}
 use Rattle.ctl_query.specs.NameSet.{is_among}
 use Rattle.ctl_query.specs.Packages.{is_installed, packages_of, of_rows, of_all_rows}
 use Rattle.ctl_query.specs.ReverseDepends.{naming_in_lead, naming, asker_line, asking_line}

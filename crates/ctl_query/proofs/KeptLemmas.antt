@@ -19,9 +19,9 @@ use Rattle.ctl_index.specs.declared.keys.AtomKey.{AtomKey}
 use Rattle.ctl_index.specs.HeldCache.{standing}
 use Rattle.ctl_index.specs.Names.{naming_fields, keyed_group, keyed_groups, keyed_atoms, is_named, namers_of, namers_named, AllButName, KeptNamer, with_name, is_qualifier_kept, is_bound_kept, kept_of, kept_namers_of, kept_namers_named}
 use Rattle.ctl_query.specs.declared.lead_atoms.LeadAtom.{LeadAtom}
-use Rattle.ctl_query.specs.Inside.Leads.{atom_in, atom_of, line_in}
+use Rattle.ctl_query.specs.Leads.{atom_in, atom_of, line_in}
 use Rattle.ctl_query.specs.ShowPackage.{line_if_naming, naming_line}
-use Rattle.ctl_query.specs.Inside.LeadTable.{AreEnough}
+use Rattle.ctl_query.specs.LeadTable.{AreEnough}
 use Rattle.ctl_query.specs.Inside.ListedAtoms.{listed_at, IsKeptIn, IsKeptOf}
 use Rattle.ctl_query.proofs.AtomLemmas.{IsTail, tail_whole, tail_head, tail_next, atom_is, all_at, some_is}
 use Rattle.ctl_query.proofs.AtomOrderLemmas.{all_append}

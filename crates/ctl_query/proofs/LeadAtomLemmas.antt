@@ -8,7 +8,7 @@ use Rattle.ctl_relation.specs.FieldKind.{field_place}
 use Rattle.ctl_store.specs.declared.stanza_key.StanzaKey.{StanzaKey}
 use Rattle.ctl_store.specs.Keys.{key_cmp, key_is}
 use Rattle.ctl_query.specs.declared.lead_atoms.LeadAtom.{LeadAtom}
-use Rattle.ctl_query.specs.Inside.Leads.{lead_atom_cmp}
+use Rattle.ctl_query.specs.Leads.{lead_atom_cmp}
 
 pub nat_itself : (a : ℕ) → nat_eq a a ≡ true
 nat_itself a = grind (arith, nat_tests)

@@ -13,7 +13,7 @@ use Rattle.ctl_policy.specs.Rows.{Row, rows_named, newest_first, keys_of_row, is
 use Rattle.ctl_policy.specs.Priority.{World, world_of}
 use Rattle.ctl_query.specs.Packages.{stanzas_of, names_known, has_row, of_rows, told_of_row, rows_of, packages_of}
 use Rattle.ctl_index.specs.LeadKeys.{lead_key}
-use Rattle.ctl_query.specs.Inside.Leads.{keyed_lead, keyed_stanza, leads_named, leads_of}
+use Rattle.ctl_query.specs.Leads.{keyed_lead, keyed_stanza, leads_named, leads_of}
 use Rattle.ctl_query.proofs.AtomOrderLemmas.{all_append}
 use Rattle.ctl_query.proofs.InterestLemmas.{skip}
 

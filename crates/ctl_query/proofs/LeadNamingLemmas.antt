@@ -11,8 +11,8 @@ use Rattle.ctl_index.specs.Names.{namers_named}
 use Rattle.ctl_policy.specs.Priority.{world_of}
 use Rattle.ctl_query.specs.declared.lead_atoms.LeadAtom.{LeadAtom}
 use Rattle.ctl_query.specs.Inside.Namings.{lines_behind}
-use Rattle.ctl_query.specs.Inside.Leads.{leads_of, line_at, is_at, lead_atom_cmp}
-use Rattle.ctl_query.specs.Inside.LeadTable.{AreEnough}
+use Rattle.ctl_query.specs.Leads.{leads_of, line_at, is_at, lead_atom_cmp}
+use Rattle.ctl_query.specs.LeadTable.{AreEnough}
 use Rattle.ctl_query.specs.Packages.{packages_of, of_rows, of_all_rows}
 use Rattle.ctl_query.specs.ReverseDepends.{asking_line}
 use Rattle.ctl_query.specs.ShowPackage.{naming_lines}

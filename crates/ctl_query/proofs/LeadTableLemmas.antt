@@ -19,8 +19,8 @@ use Rattle.ctl_store.specs.declared.stanza_key.StanzaKey.{StanzaKey}
 use Rattle.ctl_store.specs.Entries.{Entry}
 use Rattle.ctl_store.specs.Keys.{key_cmp}
 use Rattle.ctl_query.proofs.RisingLemmas.{less_where}
-use Rattle.ctl_query.specs.Inside.Leads.{key_at}
-use Rattle.ctl_query.specs.Inside.LeadTable.{lent_leads, place_under, numbered_from, AreInKeyOrder, ArePlaces}
+use Rattle.ctl_query.specs.Leads.{key_at}
+use Rattle.ctl_query.specs.LeadTable.{lent_leads, place_under, numbered_from, AreInKeyOrder, ArePlaces}
 
 -- ---- two keys
 

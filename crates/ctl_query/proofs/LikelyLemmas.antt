@@ -3,8 +3,8 @@ use Rattle.std.proofs.Common.{◌≡◌, ◌∙◌, ◌+◌, ◌<◌, ℕ, zero,
 use Rattle.std.proofs.lemmas.Bool.{cases_lt}
 use Rattle.ctl_stanza.specs.Content.{Content}
 use Rattle.ctl_store.specs.declared.stanza_key.StanzaKey.{StanzaKey}
-use Rattle.ctl_query.specs.Inside.Leads.{key_at}
-use Rattle.ctl_query.specs.Inside.LeadTable.{lent_leads, likely_place}
+use Rattle.ctl_query.specs.Leads.{key_at}
+use Rattle.ctl_query.specs.LeadTable.{lent_leads, likely_place}
 use Rattle.ctl_query.proofs.AtomLemmas.{some_is}
 use Rattle.ctl_query.proofs.ListedAtomLemmas.{lent_key}
 

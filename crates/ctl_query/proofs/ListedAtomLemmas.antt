@@ -22,8 +22,8 @@ use Rattle.ctl_index.specs.declared.keys.AtomKey.{AtomKey}
 use Rattle.ctl_index.specs.Names.{KeptNamer}
 use Rattle.ctl_query.specs.declared.lead_atoms.LeadAtom.{LeadAtom}
 use Rattle.ctl_query.specs.declared.lead_atoms.ListedAtom.{ListedAtom}
-use Rattle.ctl_query.specs.Inside.Leads.{lead_atom_cmp, atom_of, is_key_of, is_at, is_listed, key_at}
-use Rattle.ctl_query.specs.Inside.LeadTable.{lent_leads}
+use Rattle.ctl_query.specs.Leads.{lead_atom_cmp, atom_of, is_key_of, is_at, is_listed, key_at}
+use Rattle.ctl_query.specs.LeadTable.{lent_leads}
 use Rattle.ctl_query.specs.Inside.ListedAtoms.{places_in, listed_at, IsKept, IsKeptOf}
 use Rattle.ctl_query.proofs.AtomLemmas.{any_map}
 use Rattle.ctl_query.proofs.AtomOrderLemmas.{lead_atoms_total}

@@ -24,7 +24,7 @@ use Rattle.ctl_query.specs.declared.lead_atoms.LeadAtom.{LeadAtom}
 use Rattle.ctl_query.specs.declared.lead_atoms.ListedAtom.{ListedAtom}
 use Rattle.ctl_query.specs.Inside.ListedAtoms.{IsKept, IsKeptIn}
 use Rattle.ctl_query.specs.Inside.Namings.{Naming, naming_in, namings_at}
-use Rattle.ctl_query.specs.Inside.Leads.{lead_atom_cmp, line_at, is_at, atom_of, leads_named}
+use Rattle.ctl_query.specs.Leads.{lead_atom_cmp, line_at, is_at, atom_of, leads_named}
 use Rattle.ctl_query.specs.Packages.{is_none_of, of_rows}
 use Rattle.ctl_query.specs.ReverseDepends.{naming_in_group, naming_in_field, naming_in_lead}
 use Rattle.ctl_query.specs.ShowPackage.{naming_line, line_if_naming}

@@ -14,7 +14,7 @@ use Rattle.ctl_store.specs.Keys.{stanza_at}
 use Rattle.ctl_index.specs.declared.keys.AtomKey.{AtomKey}
 use Rattle.ctl_index.specs.HeldCache.{standing}
 use Rattle.ctl_index.specs.Names.{naming_fields, keyed_group, keyed_groups, keyed_atoms, namers_named}
-use Rattle.ctl_query.specs.Inside.Interest.{is_of_package, names_it}
+use Rattle.ctl_query.specs.Interest.{is_of_package, names_it}
 use Rattle.ctl_query.specs.ReverseDepends.{naming_in_group, naming_in_field, naming_in_lead}
 use Rattle.ctl_query.specs.ShowPackage.{line_if_naming, naming_in, naming_lines}
 use Rattle.ctl_query.proofs.KnownLemmas.{left_false, right_false}

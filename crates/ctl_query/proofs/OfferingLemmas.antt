@@ -13,7 +13,7 @@ use Rattle.ctl_index.specs.HeldCache.{standing}
 use Rattle.ctl_index.specs.Offers.{offers_named}
 use Rattle.ctl_store.specs.Keys.{stanza_at}
 use Rattle.ctl_query.specs.Packages.{is_none_of}
-use Rattle.ctl_query.specs.Inside.Interest.{is_provider, provides_it}
+use Rattle.ctl_query.specs.Interest.{is_provider, provides_it}
 use Rattle.ctl_query.specs.ShowPackage.{has_name, line_if_providing, providing_lines}
 use Rattle.ctl_query.proofs.KnownLemmas.{left_false, right_false}
 use Rattle.ctl_query.proofs.NamingLemmas.{flat_none, true_or}

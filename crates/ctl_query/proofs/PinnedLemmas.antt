@@ -11,7 +11,7 @@ use Rattle.ctl_store.specs.declared.stanza_key.StanzaKey.{StanzaKey}
 use Rattle.ctl_store.specs.Pins.{is_of}
 use Rattle.ctl_policy.specs.Rows.{Row, rows_named, newest_first, keys_of_row, is_any_row}
 use Rattle.ctl_policy.specs.Priority.{World, matches_row, specific_pin}
-use Rattle.ctl_query.specs.Inside.Interest.{is_pinned}
+use Rattle.ctl_query.specs.Interest.{is_pinned}
 use Rattle.ctl_query.specs.NameSet.{is_among}
 use Rattle.ctl_query.specs.Packages.{has_row, packages_of, rows_of}
 use Rattle.ctl_query.specs.Policy.{row_version, pinned_line, line_if_pinned, pinned_lines}

@@ -22,7 +22,7 @@ use Rattle.ctl_index.specs.Offers.{contents, offers_among, offers_named}
 use Rattle.ctl_policy.specs.Priority.{world_of}
 use Rattle.ctl_query.specs.Depends.{is_met_by, providers, atom_pairs}
 use Rattle.ctl_query.specs.NameSet.{is_among}
-use Rattle.ctl_query.specs.Inside.Providers.{gives, gives_at}
+use Rattle.ctl_query.specs.Providers.{gives, gives_at}
 use Rattle.ctl_query.proofs.EntryLemmas.{contents_are}
 use Rattle.ctl_query.proofs.OrderLemmas.{is_in_order}
 use Rattle.ctl_query.proofs.SilentLemmas.{swapped}

@@ -22,7 +22,7 @@ use Rattle.ctl_index.specs.Offers.{offers_named}
 use Rattle.ctl_policy.specs.Priority.{world_of}
 use Rattle.ctl_policy.specs.Rows.{Row, keys_at, rows_of, rows_named, version_in, versions_of, newest_first, is_any_row}
 use Rattle.ctl_query.specs.Packages.{is_none_of, has_row}
-use Rattle.ctl_query.specs.Inside.Providers.{makes_row, makes_row_at}
+use Rattle.ctl_query.specs.Providers.{makes_row, makes_row_at}
 
 -- ---- rows of stanzas
 

@@ -19,7 +19,7 @@ use Rattle.ctl_index.specs.Clauses.{clause_fields, is_clause_field, clause_of, c
 use Rattle.ctl_index.specs.HeldCache.{standing}
 use Rattle.ctl_index.specs.Offers.{contents, offers_among}
 use Rattle.ctl_policy.specs.Priority.{world_of}
-use Rattle.ctl_query.specs.Inside.Interest.{is_of_package, has_unmet}
+use Rattle.ctl_query.specs.Interest.{is_of_package, has_unmet}
 use Rattle.ctl_query.specs.Packages.{stanzas_of}
 use Rattle.ctl_query.specs.Unmet.{fields_considered, line_if_unmet, unmet_in_field, clause_lines, unmet_heading, under as under_heading, unmet_lead}
 use Rattle.ctl_query.specs.Unmet.{is_unmet as is_unmet_in}

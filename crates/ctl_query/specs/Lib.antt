@@ -12,6 +12,10 @@ pub mod Query
 pub mod QueryRead
 pub mod Answer
 pub mod NameSet
+pub mod Interest
+pub mod Providers
 pub mod Holdings
 pub mod Anew
+pub mod Leads
+pub mod LeadTable
 pub mod Inside

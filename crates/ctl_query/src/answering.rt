@@ -168,9 +168,7 @@ pub fn answer_and_keep(
     ensures err { OnErr result (out.new.items ≡ out.old.items) }
     ensures steps { steps.new ≤ steps.old + answer_pairs (world_of cache.old.store) (query_text query.now) }
     ensures kept { steps.old ≤ steps.new }
-    ensures store { cache.new.store ≡ cache.old.store }
-    ensures tests { cache.new.steps ≡ cache.old.steps }
-    ensures fresh { cache.new.stale ≡ false }
+    ensures cache { cache.new ≡ cache.old }
 {
     if wants_leads(cache.store(), query) {
         // Where there is no memory for them, the answer may still have it.

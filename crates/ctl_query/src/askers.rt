@@ -4,7 +4,7 @@ ghost use Rattle.std.specs.Prelude.{◌≡◌, ◌++◌, IfOk, OnOk, map, option
 ghost use Rattle.ctl_stanza.specs.Content.{Content};
 ghost use Rattle.ctl_store.specs.Entries.{Entry};
 ghost use Rattle.ctl_query.specs.Inside.Askers.{lent_asker, IsTold};
-ghost use Rattle.ctl_query.specs.Inside.LeadTable.{lent_leads};
+ghost use Rattle.ctl_query.specs.LeadTable.{lent_leads};
 ghost use Rattle.ctl_query.specs.ShowPackage.{asker};
 
 use crate::lead_lines::append_asker;

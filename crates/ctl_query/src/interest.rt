@@ -10,7 +10,7 @@ ghost use Rattle.ctl_store.specs.Store.{keyed_of};
 ghost use Rattle.ctl_store.specs.Pins.{is_of};
 ghost use Rattle.ctl_policy.specs.Priority.{world_of};
 ghost use Rattle.ctl_index.specs.HeldCache.{standing};
-ghost use Rattle.ctl_query.specs.Inside.Interest.{is_of_package, is_provider, names_it, has_unmet, is_pinned};
+ghost use Rattle.ctl_query.specs.Interest.{is_of_package, is_provider, names_it, has_unmet, is_pinned};
 ghost use Rattle.ctl_query.specs.NameSet.{lent_names, is_among};
 
 use crate::asking::Asking;

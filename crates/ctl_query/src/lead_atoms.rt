@@ -7,9 +7,9 @@ ghost use Rattle.std.specs.List.{All, list_any};
 ghost use Rattle.std.specs.List.Sorted.{IsStrictlySortedBy};
 ghost use Rattle.ctl_index.specs.Names.{KeptNamer as KeyAndKept};
 ghost use Rattle.ctl_store.specs.Entries.{Entry};
-ghost use Rattle.ctl_query.specs.Inside.Leads.{lead_atom_cmp, is_listed, line_in, line_at, is_at, is_key_of, atom_in, key_at};
+ghost use Rattle.ctl_query.specs.Leads.{lead_atom_cmp, is_listed, line_in, line_at, is_at, is_key_of, atom_in, key_at};
 ghost use Rattle.ctl_query.specs.Inside.ListedAtoms.{places_in, listed_at, IsKeptIn, IsKept, IsKeptOf};
-ghost use Rattle.ctl_query.specs.Inside.LeadTable.{lent_leads};
+ghost use Rattle.ctl_query.specs.LeadTable.{lent_leads};
 ghost use Rattle.ctl_query.specs.ShowPackage.{asker};
 
 use crate::ahead::room_of_texts;

@@ -5,8 +5,8 @@ ghost use Rattle.std.specs.Prelude.{◌≡◌, ◌++◌, ℕ, true, Some, OnOk, 
 ghost use Rattle.std.specs.Bool.{OnTrue, OnFalse};
 ghost use Rattle.ctl_store.specs.Entries.{Entry};
 ghost use Rattle.ctl_policy.specs.Priority.{world_of};
-ghost use Rattle.ctl_query.specs.Inside.Leads.{key_at, keyed_stanza, leads_named, leads_of};
-ghost use Rattle.ctl_query.specs.Inside.LeadTable.{lent_leads, likely_place, place_under, numbered_from, slot_of, AreEnough, AreInKeyOrder, AreLikely, ArePlaces};
+ghost use Rattle.ctl_query.specs.Leads.{key_at, keyed_stanza, leads_named, leads_of};
+ghost use Rattle.ctl_query.specs.LeadTable.{lent_leads, likely_place, place_under, numbered_from, slot_of, AreEnough, AreInKeyOrder, AreLikely, ArePlaces};
 ghost use Rattle.ctl_query.specs.NameSet.{lent_names};
 
 use crate::asking::Asking;
@@ -33,7 +33,7 @@ pub(crate) struct LeadTable<'a> {
 impl<'a> Model for LeadTable<'a> {
     ghost use Rattle.std.specs.Prelude.{◌≡◌, List, IfSome, true};
     ghost use Rattle.ctl_store.specs.Entries.{Entry};
-    ghost use Rattle.ctl_query.specs.Inside.LeadTable.{lent_leads, AreLikely, ArePlaces};
+    ghost use Rattle.ctl_query.specs.LeadTable.{lent_leads, AreLikely, ArePlaces};
 
     ghost Value = { List Entry };
 

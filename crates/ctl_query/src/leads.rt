@@ -5,7 +5,7 @@ ghost use Rattle.std.specs.Option.{option_to_list};
 ghost use Rattle.ctl_store.specs.Store.{keyed_of};
 ghost use Rattle.ctl_policy.specs.Rows.{version_under};
 ghost use Rattle.ctl_policy.specs.Priority.{world_of};
-ghost use Rattle.ctl_query.specs.Inside.Leads.{keyed_lead, keyed_stanza, lent_lead};
+ghost use Rattle.ctl_query.specs.Leads.{keyed_lead, keyed_stanza, lent_lead};
 ghost use Rattle.ctl_query.specs.Packages.{stanza_under, lead_in};
 
 use ctl_policy::NewestFirst;
@@ -93,7 +93,7 @@ impl<'a> Model for Leads<'a> {
     ghost use Rattle.std.specs.Prelude.{List, flat_map};
     ghost use Rattle.ctl_store.specs.Entries.{Entry};
     ghost use Rattle.ctl_policy.specs.Priority.{world_of};
-    ghost use Rattle.ctl_query.specs.Inside.Leads.{keyed_lead};
+    ghost use Rattle.ctl_query.specs.Leads.{keyed_lead};
 
     ghost Value = { List Entry };
 

@@ -6,7 +6,7 @@ ghost use Rattle.std.specs.List.Sorted.{IsPermutation};
 ghost use Rattle.ctl_index.specs.HeldCache.{standing};
 ghost use Rattle.ctl_index.specs.Names.{kept_namers_named};
 ghost use Rattle.ctl_policy.specs.Priority.{world_of};
-ghost use Rattle.ctl_query.specs.Inside.LeadTable.{AreEnough};
+ghost use Rattle.ctl_query.specs.LeadTable.{AreEnough};
 ghost use Rattle.ctl_query.specs.Packages.{packages_of};
 ghost use Rattle.ctl_query.specs.ReverseDepends.{asking_line};
 ghost use Rattle.ctl_query.specs.Inside.Namings.{Naming, lent_naming, further_at, naming_in, naming_at};

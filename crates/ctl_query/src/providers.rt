@@ -6,7 +6,7 @@ ghost use Rattle.ctl_policy.specs.Priority.{world_of};
 ghost use Rattle.ctl_query.specs.Depends.{is_kept, names_kept, providers, atom_pairs, provider_line};
 ghost use Rattle.ctl_query.specs.NameSet.{lent_names, is_among};
 ghost use Rattle.ctl_query.specs.Packages.{has_row, is_none_of};
-ghost use Rattle.ctl_query.specs.Inside.Providers.{gives, makes_row};
+ghost use Rattle.ctl_query.specs.Providers.{gives, makes_row};
 
 use crate::asking::Asking;
 use crate::interest::stanzas_are_found;

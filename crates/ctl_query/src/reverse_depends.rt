@@ -5,7 +5,7 @@ ghost use Rattle.std.specs.List.Sorted.{IsPermutation};
 ghost use Rattle.ctl_index.specs.HeldCache.{standing};
 ghost use Rattle.ctl_index.specs.Names.{kept_namers_named};
 ghost use Rattle.ctl_policy.specs.Priority.{world_of};
-ghost use Rattle.ctl_query.specs.Inside.Leads.{leads_of};
+ghost use Rattle.ctl_query.specs.Leads.{leads_of};
 ghost use Rattle.ctl_query.specs.ReverseDepends.{asking_line, reverse_depends_one, reverse_depends_text};
 ghost use Rattle.ctl_query.specs.Packages.{packages_of};
 ghost use Rattle.ctl_query.specs.Texts.{if_known};

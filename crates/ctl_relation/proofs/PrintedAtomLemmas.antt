@@ -1,5 +1,5 @@
 -- Atoms that stand in a text just as they are printed.
-use Rattle.std.proofs.Common.{◌≡◌, ℕ, ◌-◌, Bool, true, false, cond, Option, Some, None, List, [], ◌∷◌, ◌++◌, length, take, Ok, Err, refl, sym, ap, ◌∙◌, append-nil, append_assoc, eqb-true, nat_eq, length-append, arith}
+use Rattle.std.proofs.Common.{◌≡◌, ℕ, ◌-◌, Bool, true, false, cond, Option, Some, None, List, [], ◌∷◌, ◌++◌, length, take, Result, Ok, Err, refl, sym, ap, ◌∙◌, append-nil, append_assoc, eqb-true, nat_eq, length-append, arith}
 use Rattle.std.specs.Prelude.{◌&&◌, not, is_none}
 use Rattle.std.proofs.Math.Seq.{take-append_seam}
 use Rattle.ctl_relation.specs.declared.relation_fault.RelationFault.{RelationFault}

@@ -1,6 +1,6 @@
 //! The keys of the leads of all rows, kept from a query that wants them up to the next edit.
 
-ghost use Rattle.std.specs.Prelude.{◌≡◌, ◌++◌, true, false, IfOk, IfSome, IfNone, OnOk, OnErr, flat_map};
+ghost use Rattle.std.specs.Prelude.{◌≡◌, ◌++◌, false, IfOk, IfSome, OnOk, flat_map};
 ghost use Rattle.ctl_index.specs.LeadKeys.{lead_key, lead_keys};
 
 use crate::cache::Cache;
@@ -42,8 +42,7 @@ impl Cache {
     /// Out of memory. No keys are kept then.
     pub fn keep_leads(&mut self) -> Result<(), AllocError>
         requires { self.old.stale ≡ false }
-        ensures ok { OnOk result (self.new ≡ record self.old { keeps_leads = true }) }
-        ensures err { OnErr result (self.new ≡ self.old) }
+        ensures { self.new ≡ self.old }
     {
         if self.leads.is_none() {
             let leads = self.all_leads()?;
@@ -55,8 +54,7 @@ impl Cache {
     /// The keys of the leads of all rows, name by name, and of each the newest first, where they are kept.
     pub fn kept_leads(&self) -> Option<&[StanzaKey]>
         requires { self.now.stale ≡ false }
-        ensures some { IfSome result (λ leads. leads.now ≡ lead_keys self.now.store) }
-        ensures none { IfNone result (self.now.keeps_leads ≡ false) }
+        ensures { IfSome result (λ leads. leads.now ≡ lead_keys self.now.store) }
     {
         match &self.leads {
             Some(leads) => Some(leads),

@@ -8,7 +8,7 @@ use Rattle.ctl_index.specs.HeldCache.{standing}
 use Rattle.ctl_index.specs.Names.{kept_namers_named}
 use Rattle.ctl_policy.specs.Priority.{world_of}
 use Rattle.ctl_query.specs.declared.asking.AskedName.{AskedName}
-use Rattle.ctl_query.specs.Inside.Interest.{offering_named}
+use Rattle.ctl_query.specs.Interest.{offering_named}
 use Rattle.ctl_query.specs.Packages.{is_known, rows_of}
 
 -- the names themselves

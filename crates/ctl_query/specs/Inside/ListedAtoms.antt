@@ -6,7 +6,7 @@ use Rattle.ctl_store.specs.Entries.{Entry}
 use Rattle.ctl_index.specs.Names.{KeptNamer, with_name}
 use Rattle.ctl_query.specs.declared.lead_atoms.LeadAtom.{LeadAtom}
 use Rattle.ctl_query.specs.declared.lead_atoms.ListedAtom.{ListedAtom}
-use Rattle.ctl_query.specs.Inside.Leads.{atom_in, atom_of, key_at}
+use Rattle.ctl_query.specs.Leads.{atom_in, atom_of, key_at}
 
 -- where they stand
 abbrev pub places_in : List ListedAtom → List LeadAtom

@@ -4,7 +4,7 @@ use Rattle.std.proofs.lemmas.List.Sorted.{list_any-IsPermutation}
 use Rattle.ctl_index.specs.declared.keys.AtomKey.{AtomKey}
 use Rattle.ctl_index.specs.HeldCache.{standing}
 use Rattle.ctl_index.specs.Names.{namers_named}
-use Rattle.ctl_query.specs.Inside.Interest.{is_of_package}
+use Rattle.ctl_query.specs.Interest.{is_of_package}
 use Rattle.ctl_query.specs.NameSet.{lent_names, is_among}
 use Rattle.ctl_query.proofs.interest.packages_naming.Goals as goal
 

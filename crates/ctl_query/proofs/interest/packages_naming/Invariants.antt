@@ -1,7 +1,7 @@
 use Rattle.std.proofs.Common.{◌≡◌, ◌||◌, ℕ, List}
 use Rattle.std.specs.List.{list_any}
 use Rattle.ctl_index.specs.declared.keys.AtomKey.{AtomKey}
-use Rattle.ctl_query.specs.Inside.Interest.{is_of_package}
+use Rattle.ctl_query.specs.Interest.{is_of_package}
 use Rattle.ctl_query.specs.NameSet.{lent_names, is_among}
 use Rattle.ctl_query.proofs.interest.packages_naming.Given as goal
 

@@ -1,6 +1,6 @@
 use Rattle.std.proofs.Common.{◌≡◌, ◌||◌, ℕ, List}
 use Rattle.std.specs.List.{list_any}
-use Rattle.ctl_query.specs.Inside.Interest.{is_provider}
+use Rattle.ctl_query.specs.Interest.{is_provider}
 use Rattle.ctl_query.specs.NameSet.{lent_names, is_among}
 use Rattle.ctl_query.proofs.interest.packages_providing.Given as goal
 

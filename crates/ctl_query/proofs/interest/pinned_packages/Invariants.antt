@@ -1,5 +1,5 @@
 use Rattle.std.proofs.Common.{◌≡◌, ◌||◌, ℕ, List}
-use Rattle.ctl_query.specs.Inside.Interest.{is_pinned}
+use Rattle.ctl_query.specs.Interest.{is_pinned}
 use Rattle.ctl_query.specs.NameSet.{lent_names, is_among}
 use Rattle.ctl_query.proofs.interest.pinned_packages.Given as goal
 

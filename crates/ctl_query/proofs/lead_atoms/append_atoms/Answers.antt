@@ -1,6 +1,6 @@
 use Rattle.std.proofs.Common.{◌∙◌, ◌++◌, ℕ, List, take, flat_map, ap, append_assoc, sym}
 use Rattle.ctl_query.specs.declared.lead_atoms.ListedAtom.{ListedAtom}
-use Rattle.ctl_query.specs.Inside.Leads.{line_at}
+use Rattle.ctl_query.specs.Leads.{line_at}
 use Rattle.ctl_query.proofs.AskedLemmas.{written_more}
 use Rattle.ctl_query.proofs.lead_atoms.append_atoms.Goals as goal
 

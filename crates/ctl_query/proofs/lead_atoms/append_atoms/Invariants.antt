@@ -1,6 +1,6 @@
 use Rattle.std.proofs.Common.{◌≡◌, ◌++◌, take, flat_map}
 use Rattle.ctl_query.specs.declared.lead_atoms.ListedAtom.{ListedAtom}
-use Rattle.ctl_query.specs.Inside.Leads.{line_at}
+use Rattle.ctl_query.specs.Leads.{line_at}
 use Rattle.ctl_query.proofs.lead_atoms.append_atoms.Given as goal
 
 -- what was written, are the lines of the atoms so far

@@ -1,7 +1,7 @@
 use Rattle.std.proofs.Common.{rules, ◌≡◌, ◌∙◌, ◌-◌, true, sym, arith}
 use Rattle.std.proofs.lemmas.List.Sorted.{all_adjacent_more}
 use Rattle.std.specs.Ordering.{is_lt}
-use Rattle.ctl_query.specs.Inside.Leads.{lead_atom_cmp}
+use Rattle.ctl_query.specs.Leads.{lead_atom_cmp}
 use Rattle.ctl_query.specs.declared.lead_atoms.ListedAtom.{ListedAtom}
 use Rattle.ctl_query.proofs.ListedAtomLemmas.{in_order_from, atom_read}
 use Rattle.ctl_query.proofs.lead_atoms.are_in_order.Goals as goal

@@ -1,7 +1,7 @@
 use Rattle.std.proofs.Common.{◌≡◌, ◌+◌, ◌<◌, ℕ, true, get_or}
 use Rattle.std.specs.Ordering.{is_lt}
 use Rattle.ctl_query.specs.declared.lead_atoms.ListedAtom.{ListedAtom}
-use Rattle.ctl_query.specs.Inside.Leads.{lead_atom_cmp}
+use Rattle.ctl_query.specs.Leads.{lead_atom_cmp}
 use Rattle.ctl_query.proofs.lead_atoms.are_in_order.Given as goal
 
 -- each so far is below the next

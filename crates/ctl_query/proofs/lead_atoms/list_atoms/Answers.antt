@@ -2,7 +2,7 @@ use Rattle.std.proofs.Common.{◌≡◌, ◌∙◌, ◌∷◌, ◌||◌, Bool, a
 use Rattle.std.specs.List.{All, list_any}
 use Rattle.std.proofs.lemmas.List.Elements.{All-head, All-tail, All-same}
 use Rattle.ctl_index.specs.Names.{KeptNamer}
-use Rattle.ctl_query.specs.Inside.Leads.{is_at, is_listed}
+use Rattle.ctl_query.specs.Leads.{is_at, is_listed}
 use Rattle.ctl_query.specs.Inside.ListedAtoms.{places_in, IsKeptOf}
 use Rattle.ctl_query.proofs.ListedAtomLemmas.{any_moved}
 use Rattle.ctl_query.proofs.lead_atoms.list_atoms.Goals as goal

@@ -2,7 +2,7 @@ use Rattle.std.proofs.Common.{◌≡◌, ◌||◌, ℕ, List}
 use Rattle.std.specs.List.{All, list_any}
 use Rattle.ctl_index.specs.Names.{KeptNamer}
 use Rattle.ctl_query.specs.declared.lead_atoms.LeadAtom.{LeadAtom}
-use Rattle.ctl_query.specs.Inside.Leads.{is_listed, is_at}
+use Rattle.ctl_query.specs.Leads.{is_listed, is_at}
 use Rattle.ctl_query.specs.Inside.ListedAtoms.{places_in, IsKept, IsKeptOf}
 use Rattle.ctl_query.proofs.lead_atoms.list_atoms.Given as goal
 

@@ -1,6 +1,6 @@
 use Rattle.std.proofs.Common.{◌∙◌, ◌&&◌, ◌||◌, nat_eq, get_or, ap}
-use Rattle.ctl_query.specs.Inside.Leads.{is_key_of, is_listed}
-use Rattle.ctl_query.specs.Inside.LeadTable.{lent_leads}
+use Rattle.ctl_query.specs.Leads.{is_key_of, is_listed}
+use Rattle.ctl_query.specs.LeadTable.{lent_leads}
 use Rattle.ctl_query.specs.Inside.ListedAtoms.{places_in}
 use Rattle.ctl_query.proofs.ListedAtomLemmas.{at_more, lent_key}
 use Rattle.ctl_query.proofs.lead_atoms.push_each.Goals as goal

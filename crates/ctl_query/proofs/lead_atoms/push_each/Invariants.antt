@@ -1,8 +1,8 @@
 use Rattle.std.proofs.Common.{◌≡◌, ◌||◌, ℕ, List, take}
 use Rattle.std.specs.List.{All}
 use Rattle.ctl_query.specs.declared.lead_atoms.LeadAtom.{LeadAtom}
-use Rattle.ctl_query.specs.Inside.LeadTable.{lent_leads}
-use Rattle.ctl_query.specs.Inside.Leads.{is_listed, is_at}
+use Rattle.ctl_query.specs.LeadTable.{lent_leads}
+use Rattle.ctl_query.specs.Leads.{is_listed, is_at}
 use Rattle.ctl_query.specs.Inside.ListedAtoms.{places_in, IsKept, IsKeptOf}
 use Rattle.ctl_query.proofs.lead_atoms.push_each.Given as goal
 

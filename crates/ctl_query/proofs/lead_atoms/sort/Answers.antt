@@ -8,7 +8,7 @@ use Rattle.std.specs.List.{All, dedup}
 use Rattle.std.specs.List.Sorted.{IsStrictlySortedBy}
 use Rattle.std.specs.Ordering.{is_eq}
 use Rattle.ctl_query.specs.declared.lead_atoms.ListedAtom.{ListedAtom}
-use Rattle.ctl_query.specs.Inside.Leads.{lead_atom_cmp, is_listed}
+use Rattle.ctl_query.specs.Leads.{lead_atom_cmp, is_listed}
 use Rattle.ctl_query.specs.Inside.ListedAtoms.{places_in, IsKept}
 use Rattle.ctl_query.proofs.AtomOrderLemmas.{lead_atoms_total, sorted_map}
 use Rattle.ctl_query.proofs.ListedAtomLemmas.{same_place, same_place_is, kept_once}

@@ -1,7 +1,7 @@
 use Rattle.std.proofs.Common.{◌≡◌, ◌++◌, flat_map}
 use Rattle.ctl_policy.specs.Priority.{world_of}
-use Rattle.ctl_query.specs.Inside.Leads.{keyed_lead}
-use Rattle.ctl_query.specs.Inside.LeadTable.{lent_leads}
+use Rattle.ctl_query.specs.Leads.{keyed_lead}
+use Rattle.ctl_query.specs.LeadTable.{lent_leads}
 use Rattle.ctl_query.proofs.lead_table.gathered_leads.Given as goal
 
 -- the leads so far, and those of the rows of the names that are left, are those of the rows of all names

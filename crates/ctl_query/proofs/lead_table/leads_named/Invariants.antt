@@ -1,7 +1,7 @@
 use Rattle.std.proofs.Common.{◌≡◌, ◌++◌, take, flat_map}
 use Rattle.ctl_policy.specs.Priority.{world_of}
-use Rattle.ctl_query.specs.Inside.Leads.{leads_named}
-use Rattle.ctl_query.specs.Inside.LeadTable.{lent_leads}
+use Rattle.ctl_query.specs.Leads.{leads_named}
+use Rattle.ctl_query.specs.LeadTable.{lent_leads}
 use Rattle.ctl_query.specs.NameSet.{lent_names}
 use Rattle.ctl_query.proofs.lead_table.leads_named.Given as goal
 

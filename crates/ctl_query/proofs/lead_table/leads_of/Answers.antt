@@ -2,8 +2,8 @@ use Rattle.std.proofs.Common.{◌≡◌, ◌∙◌, ℕ, List, IfOk, ap, subst, 
 use Rattle.ctl_policy.specs.Priority.{world_of}
 use Rattle.ctl_policy.specs.Rows.{rows_named, newest_first, keys_of_row}
 use Rattle.ctl_store.specs.Entries.{Entry}
-use Rattle.ctl_query.specs.Inside.Leads.{keyed_stanza, leads_of}
-use Rattle.ctl_query.specs.Inside.LeadTable.{lent_leads}
+use Rattle.ctl_query.specs.Leads.{keyed_stanza, leads_of}
+use Rattle.ctl_query.specs.LeadTable.{lent_leads}
 use Rattle.ctl_query.specs.Packages.{names_known}
 use Rattle.ctl_query.proofs.LeadLemmas.{leads_by_keys, leads_of_known}
 use Rattle.ctl_query.proofs.lead_table.leads_of.Goals as goal

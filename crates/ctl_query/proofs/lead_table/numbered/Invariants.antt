@@ -1,5 +1,5 @@
 use Rattle.std.proofs.Common.{◌≡◌, take}
-use Rattle.ctl_query.specs.Inside.LeadTable.{lent_leads, numbered_from}
+use Rattle.ctl_query.specs.LeadTable.{lent_leads, numbered_from}
 use Rattle.ctl_query.proofs.lead_table.numbered.Given as goal
 
 abbrev pub invariant-loop-place : goal.invariant-loop-place

@@ -1,7 +1,7 @@
 use Rattle.std.proofs.Common.{ℕ, List, subst}
 use Rattle.std.specs.List.Sorted.{IsPermutation}
 use Rattle.ctl_store.specs.declared.stanza_key.StanzaKey.{StanzaKey}
-use Rattle.ctl_query.specs.Inside.LeadTable.{lent_leads, AreInKeyOrder}
+use Rattle.ctl_query.specs.LeadTable.{lent_leads, AreInKeyOrder}
 use Rattle.ctl_query.proofs.LeadTableLemmas.{are_places}
 use Rattle.ctl_query.proofs.lead_table.places_of.Goals as goal
 

@@ -1,6 +1,6 @@
 use Rattle.std.proofs.Common.{◌≡◌, flat_map, length}
 use Rattle.ctl_policy.specs.Priority.{world_of}
-use Rattle.ctl_query.specs.Inside.Leads.{keyed_lead}
+use Rattle.ctl_query.specs.Leads.{keyed_lead}
 use Rattle.ctl_query.proofs.leads.next_lead.Given as goal
 
 -- the leads of the rows that are left are those of all

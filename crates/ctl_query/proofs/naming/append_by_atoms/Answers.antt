@@ -9,7 +9,7 @@ use Rattle.ctl_policy.specs.Priority.{world_of}
 use Rattle.ctl_query.specs.declared.lead_atoms.LeadAtom.{LeadAtom}
 use Rattle.ctl_query.specs.Inside.Namings.{Naming, lent_naming, namings_at, lines_behind}
 use Rattle.ctl_query.specs.declared.lead_atoms.ListedAtom.{ListedAtom}
-use Rattle.ctl_query.specs.Inside.Leads.{is_at}
+use Rattle.ctl_query.specs.Leads.{is_at}
 use Rattle.ctl_query.specs.Inside.ListedAtoms.{places_in}
 use Rattle.ctl_query.proofs.KeptLemmas.{any_named, namers_are_kept}
 use Rattle.ctl_query.proofs.LeadNamingLemmas.{lines_are_enough}

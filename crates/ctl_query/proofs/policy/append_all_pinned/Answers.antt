@@ -4,7 +4,7 @@ use Rattle.std.specs.List.Sorted.{IsStrictlySortedBy}
 use Rattle.std.specs.Ordering.{nat_cmp}
 use Rattle.ctl_store.specs.Store.{Held}
 use Rattle.ctl_policy.specs.Priority.{world_of}
-use Rattle.ctl_query.specs.Inside.Interest.{is_pinned}
+use Rattle.ctl_query.specs.Interest.{is_pinned}
 use Rattle.ctl_query.specs.NameSet.{lent_names, is_among}
 use Rattle.ctl_query.proofs.PinnedLemmas.{pinned_are_enough}
 use Rattle.ctl_query.proofs.policy.append_all_pinned.Goals as goal

@@ -3,7 +3,7 @@ use Rattle.std.specs.List.{list_any}
 use Rattle.ctl_store.specs.Store.{keyed_of}
 use Rattle.ctl_store.specs.Keys.{stanza_at}
 use Rattle.ctl_query.specs.NameSet.{lent_names, is_among}
-use Rattle.ctl_query.specs.Inside.Providers.{gives_at, makes_row_at}
+use Rattle.ctl_query.specs.Providers.{gives_at, makes_row_at}
 use Rattle.ctl_query.proofs.NameLemmas.{increasing_lent}
 use Rattle.ctl_query.proofs.ProviderLemmas.{one_more, as_many, providers_are}
 use Rattle.ctl_query.proofs.RowOfferLemmas.{one_row_more, row_by_offers}

@@ -1,7 +1,7 @@
 use Rattle.std.proofs.Common.{◌≡◌, List, Option, IfSome, Bor, subst}
 use Rattle.ctl_store.specs.Entries.{Entry}
 use Rattle.ctl_policy.specs.Priority.{world_of}
-use Rattle.ctl_query.specs.Inside.Leads.{leads_of}
+use Rattle.ctl_query.specs.Leads.{leads_of}
 use Rattle.ctl_query.proofs.LeadNamingLemmas.{all_are_enough}
 use Rattle.ctl_query.proofs.reverse_depends.append_all_askers.Goals as goal
 

@@ -8,7 +8,7 @@ use Rattle.ctl_index.specs.Names.{KeptNamer, kept_namers_named}
 use Rattle.ctl_store.specs.Entries.{Entry}
 use Rattle.ctl_query.specs.declared.lead_atoms.LeadAtom.{LeadAtom}
 use Rattle.ctl_query.specs.declared.lead_atoms.ListedAtom.{ListedAtom}
-use Rattle.ctl_query.specs.Inside.Leads.{line_at, is_at}
+use Rattle.ctl_query.specs.Leads.{line_at, is_at}
 use Rattle.ctl_query.specs.Inside.ListedAtoms.{places_in, IsKept, IsKeptOf}
 use Rattle.ctl_query.proofs.KeptLemmas.{any_named, namers_are_kept}
 use Rattle.ctl_query.proofs.LeadNamingLemmas.{atoms_are_enough}

@@ -4,7 +4,7 @@ use Rattle.std.specs.List.Sorted.{IsStrictlySortedBy}
 use Rattle.std.specs.Ordering.{nat_cmp}
 use Rattle.std.specs.List.{list_any}
 use Rattle.std.proofs.lemmas.List.Sorted.{list_any-IsPermutation}
-use Rattle.ctl_query.specs.Inside.Interest.{is_provider, offering_named, provides_it}
+use Rattle.ctl_query.specs.Interest.{is_provider, offering_named, provides_it}
 use Rattle.ctl_query.specs.NameSet.{lent_names, is_among}
 use Rattle.ctl_query.proofs.EnoughLemmas.{providing_is_enough}
 use Rattle.ctl_query.proofs.show_package.append_providing.Goals as goal

@@ -2,7 +2,7 @@ use Rattle.std.proofs.Common.{◌∙◌, ◌++◌, ◌≡◌, ℕ, List, Bor, ap
 use Rattle.std.specs.Cmp.Lexicographic.{slice_cmp}
 use Rattle.std.specs.List.Sorted.{IsStrictlySortedBy}
 use Rattle.std.specs.Ordering.{nat_cmp}
-use Rattle.ctl_query.specs.Inside.Interest.{has_unmet}
+use Rattle.ctl_query.specs.Interest.{has_unmet}
 use Rattle.ctl_query.specs.NameSet.{lent_names, is_among}
 use Rattle.ctl_query.proofs.EnoughLemmas.{unmet_is_enough}
 use Rattle.ctl_query.proofs.unmet.append_unmet.Goals as goal

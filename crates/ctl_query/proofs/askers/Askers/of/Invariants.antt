@@ -3,7 +3,7 @@ use Rattle.std.specs.List.{All}
 use Rattle.ctl_store.specs.Entries.{Entry}
 use Rattle.ctl_query.specs.declared.askers.Told.{Told}
 use Rattle.ctl_query.specs.Inside.Askers.{IsTold}
-use Rattle.ctl_query.specs.Inside.LeadTable.{lent_leads}
+use Rattle.ctl_query.specs.LeadTable.{lent_leads}
 use Rattle.ctl_query.proofs.askers.Askers.of.Given as goal
 
 -- the texts so far are those of the leads so far

@@ -5,7 +5,7 @@ use Rattle.ctl_store.specs.Followed.{under}
 use Rattle.ctl_store.specs.Store.{keyed_of}
 use Rattle.ctl_index.specs.HeldCache.{standing}
 use Rattle.ctl_policy.specs.Priority.{world_of}
-use Rattle.ctl_query.specs.Inside.Leads.{keyed_lead, leads_named}
+use Rattle.ctl_query.specs.Leads.{keyed_lead, leads_named}
 use Rattle.ctl_query.specs.Packages.{rows_of}
 use Rattle.ctl_query.proofs.EntryLemmas.{each_under}
 use Rattle.ctl_query.proofs.LeadLemmas.{leads_of_rows_at}

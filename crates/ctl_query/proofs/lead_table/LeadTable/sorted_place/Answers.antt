@@ -1,8 +1,8 @@
 use Rattle.std.proofs.Common.{◌≡◌, ◌∙◌, ℕ, List, Option, Some, IfSome, Vec, Global, sym, subst}
 use Rattle.ctl_store.specs.Entries.{Entry}
 use Rattle.ctl_store.specs.declared.stanza_key.StanzaKey.{StanzaKey}
-use Rattle.ctl_query.specs.Inside.Leads.{key_at}
-use Rattle.ctl_query.specs.Inside.LeadTable.{lent_leads, ArePlaces}
+use Rattle.ctl_query.specs.Leads.{key_at}
+use Rattle.ctl_query.specs.LeadTable.{lent_leads, ArePlaces}
 use Rattle.ctl_query.proofs.lead_table.LeadTable.sorted_place.Goals as goal
 
 -- a key has one place

@@ -13,8 +13,8 @@ use Rattle.ctl_store.specs.Entries.{Entry}
 use Rattle.ctl_store.specs.Store.{Held}
 use Rattle.ctl_store.specs.Keys.{key_cmp}
 use Rattle.ctl_policy.specs.Priority.{world_of}
-use Rattle.ctl_query.specs.Inside.Interest.{names_it}
-use Rattle.ctl_query.specs.Inside.Leads.{key_at, leads_named, lent_lead}
+use Rattle.ctl_query.specs.Interest.{names_it}
+use Rattle.ctl_query.specs.Leads.{key_at, leads_named, lent_lead}
 use Rattle.ctl_query.specs.NameSet.{is_among}
 use Rattle.ctl_query.specs.Packages.{packages_of}
 
